@@ -1,6 +1,7 @@
 // The current header of a VHDX file, which says where its log is, or the refusal: document 01's 1 to 4.
+// Its modules: `fields`, one header by itself; `choice`, which of the two headers is current.
 mod choice;
-mod fields;
+pub mod fields;
 
 ghost use mathlib.Core.Path.{_≡_};
 ghost use Rattle.vhdx_header.specs.Current.{currentHeader, withinImage};
