@@ -3,9 +3,8 @@
 mod table;
 
 ghost use mathlib.Core.Path.{_≡_};
-ghost use Prim.Native.Nat.{_+_, _≤_, min};
+ghost use Prim.Native.Nat.{min};
 ghost use lib.Bits.{bitXor};
-ghost use lib.ListN.{length};
 ghost use Rattle.crc32c.specs.Crc.{Table, ones, byte, updates, crc, zeroed};
 
 // The state before the first byte.

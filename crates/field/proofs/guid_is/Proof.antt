@@ -6,8 +6,6 @@ use borrow.Author.Needs.{needs}
 use Rattle.field.proofs.Laws.{low-same, low-other}
 use Rattle.field.proofs.guid_is.Statement.{statement}
 use Rattle.field.proofs.guid_is.Tie as tie
-use Rattle.field.proofs.guid_is.Reads as reads
-use Rattle.field.proofs.guid_is.Lts as lts
 
 returns : tie.Need-returns
 returns c =
