@@ -8,13 +8,13 @@ use lib.Dec.{leb}
 use borrow.Author.Tests.{leb-true, leb-false, le-leb, lt-leb}
 use Rattle.extent.specs.Extent.{inside}
 
-module _ (offset length size : ℕ) where
-  pub starts-outside : size < offset → inside offset length size ≡ false
-  starts-outside h = lt-leb (offset + length) size (omega arith)
+module _ (offset n size : ℕ) where
+  pub starts-outside : size < offset → inside offset n size ≡ false
+  starts-outside h = lt-leb (offset + n) size (omega arith)
 
-  pub by-difference : offset ≤ size → leb length (size - offset) ≡ inside offset length size
-  by-difference h = go (leb length (size - offset)) refl
+  pub by-difference : offset ≤ size → leb n (size - offset) ≡ inside offset n size
+  by-difference h = go (leb n (size - offset)) refl
     where
-      go : (t : Bool) → leb length (size - offset) ≡ t → leb length (size - offset) ≡ inside offset length size
-      go true e = e ∙ sym (le-leb (offset + length) size (omega (arith, leb-true length (size - offset) e)))
-      go false e = e ∙ sym (lt-leb (offset + length) size (omega (arith, leb-false length (size - offset) e)))
+      go : (t : Bool) → leb n (size - offset) ≡ t → leb n (size - offset) ≡ inside offset n size
+      go true e = e ∙ sym (le-leb (offset + n) size (omega (arith, leb-true n (size - offset) e)))
+      go false e = e ∙ sym (lt-leb (offset + n) size (omega (arith, leb-false n (size - offset) e)))

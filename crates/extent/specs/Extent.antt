@@ -5,7 +5,7 @@ use mathlib.Core.Bool.{Bool}
 use Prim.Native.Nat.{ℕ, _+_, _%_}
 use lib.Dec.{eqb, leb}
 
--- 01's unit
+-- "MiB is 1,048,576 bytes."
 abbrev pub MiB : ℕ
 MiB = 1048576
 
@@ -13,6 +13,6 @@ MiB = 1048576
 abbrev pub wholeMiB : ℕ → Bool
 wholeMiB n = eqb (n % MiB) 0
 
--- a range lies inside the first size bytes, also where its length is 0
+-- n bytes at an offset lie inside the first size bytes of a file, also where n is 0
 abbrev pub inside : ℕ → ℕ → ℕ → Bool
-inside offset length size = leb (offset + length) size
+inside offset n size = leb (offset + n) size

@@ -16,8 +16,8 @@ use Rattle.vhdx_header.specs.Current.{check, vhdxfile, slot1, slot2, hea
 use Rattle.vhdx_header.specs.declared.Header.{Header}
 use Rattle.vhdx_header.specs.declared.Answer.{Answer}
 use Rattle.vhdx_header.specs.declared.Answer.the-variants.{Refused, Current}
-use Rattle.vhdx_header.specs.declared.Slot.{Slot}
-use Rattle.vhdx_header.specs.declared.Slot.the-variants.{Neither, First, Second}
+use Rattle.vhdx_header.specs.declared.choice.Slot.{Slot}
+use Rattle.vhdx_header.specs.declared.choice.Slot.the-variants.{Neither, First, Second}
 
 pub length-first : (b : List ℕ) → MiB ≤ length b → length (firstMiB b) ≡ MiB
 unfolding firstMiB

@@ -11,8 +11,8 @@ use Rattle.extent.specs.Extent.{MiB}
 use Rattle.vhdx_header.specs.Header.{sequenceNumber, validHeader, fieldRules, insideRule, contents}
 use Rattle.vhdx_header.specs.declared.Answer.{Answer}
 use Rattle.vhdx_header.specs.declared.Answer.the-variants.{Refused, Current}
-use Rattle.vhdx_header.specs.declared.Slot.{Slot}
-use Rattle.vhdx_header.specs.declared.Slot.the-variants.{Neither, First, Second}
+use Rattle.vhdx_header.specs.declared.choice.Slot.{Slot}
+use Rattle.vhdx_header.specs.declared.choice.Slot.the-variants.{Neither, First, Second}
 
 -- a test that fails refuses by its number
 abbrev pub check : Bool → ℕ → Answer → Answer
@@ -41,6 +41,7 @@ chosenSlot true false a b = First
 chosenSlot false true a b = Second
 chosenSlot true true a b = cond (ltb b a) First (cond (ltb a b) Second Neither)
 
+-- the same of the two headers in the first MiB
 unfoldable pub currentSlot : List ℕ → Slot
 currentSlot m =
     let first = headerAt m slot1 in
@@ -66,6 +67,7 @@ abbrev pub withinImage : ℕ → Answer → Answer
 withinImage n (Refused c) = Refused c
 withinImage n (Current h) = check (insideRule h n) 4 (Current h)
 
+-- all that a header is read from
 unfoldable pub firstMiB : List ℕ → List ℕ
 firstMiB buffer = take MiB buffer
 

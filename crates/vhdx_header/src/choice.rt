@@ -1,12 +1,18 @@
 // What the first MiB says: which header is current, and what it holds.
 use crate::Answer;
-use crate::Slot;
 use crate::fields;
 ghost use mathlib.Core.Path.{_≡_};
 ghost use Prim.Native.Nat.{_+_, _≤_};
 ghost use lib.ListN.{length};
 ghost use Rattle.extent.specs.Extent.{MiB};
 ghost use Rattle.vhdx_header.specs.Current.{headerAt, chosenSlot, currentSlot, readHeader, readSlot, readFirstMiB};
+
+// Which of the two headers is the current one.
+enum Slot {
+    Neither,
+    First,
+    Second,
+}
 
 const SLOT1: usize = 65536;
 

@@ -21,13 +21,6 @@ pub enum Answer {
     Current(Header),
 }
 
-// Which of the two headers is the current one.
-pub enum Slot {
-    Neither,
-    First,
-    Second,
-}
-
 // Of the image that is the first length bytes of the buffer.
 pub fn read(buffer: &[u8], length: u64) -> Answer
     ensures { λ r. ⌜ r ≡ currentHeader (now (buffer .entry)) length ⌝ }
