@@ -1,4 +1,4 @@
--- The rule of a table, that each entry is a function of its place, from one test that antt computes over the whole table.
+-- The rule of a table, that each entry is a function of its index, from one test that antt computes over the whole table.
 -- Assumes nothing.
 use mathlib.Core.Path.{_≡_, _∙_, subst, sym}
 use mathlib.Core.Bool.{Bool, true, false, _&&_}
@@ -16,7 +16,7 @@ and-right : (a b : Bool) → T (a && b) → T b
 and-right true b t = t
 and-right false b t = absurd t
 
--- the test f passes at each entry of the list and its place, counted from i
+-- the test f passes at each entry of the list and its index, counted from i
 abbrev pub every : (ℕ → ℕ → Bool) → ℕ → List ℕ → Bool
 every f i [] = true
 every f i (x ∷ xs) = f i x && every f (suc i) xs
@@ -31,6 +31,6 @@ from f (x ∷ xs) i t (suc k) h =
 at : (f : ℕ → ℕ → Bool) (xs : List ℕ) → T (every f 0 xs) → (k : ℕ) → k < length xs → T (f k (getD xs k 0))
 at f xs t k h = subst (λ (m : ℕ). T (f m (getD xs k 0))) (zero-add k) (from f xs 0 t k h)
 
--- where the test is that the entry is f of its place
+-- where the test is that the entry is f of its index
 pub entry-is : (f : ℕ → ℕ) (xs : List ℕ) → T (every (λ k x. eqb x (f k)) 0 xs) → (k : ℕ) → k < length xs → getD xs k 0 ≡ f k
 entry-is f xs t k h = eqb→eq (getD xs k 0) (f k) (at (λ k x. eqb x (f k)) xs t k h)

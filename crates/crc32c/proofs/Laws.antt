@@ -136,7 +136,7 @@ ended bs i s h = rw (drop-of-length-le bs {i = i})
 
 -- ---- the checksum with four bytes taken as zero
 
--- places past the end count as the end
+-- an offset past the end counts as the end
 take-least : (n : ℕ) (s : List ℕ) → take (min n (length s)) s ≡ take n s
 take-least n s = go (decLe n (length s))
   where

@@ -37,7 +37,7 @@ updates s (b ∷ bs) = updates (byte s b) bs
 unfoldable pub crc : List ℕ → ℕ
 crc bs = bitXor (updates ones bs) ones
 
--- the bytes with the four at a place taken as zero: what a checksum that stands there is over. Where the list ends before,
+-- the bytes with the four at an offset taken as zero: what a checksum that stands there is over. Where the list ends before,
 -- the zeros stand at its end
 unfoldable pub zeroed : List ℕ → ℕ → List ℕ
 zeroed s at = take at s ++ ((0 ∷ 0 ∷ 0 ∷ 0 ∷ []) ++ drop (at + 4) s)

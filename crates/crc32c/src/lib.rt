@@ -31,7 +31,7 @@ pub fn checksum(bytes: &[u8]) -> u32
     finish(update(START, bytes))
 }
 
-// The checksum with the four bytes at a place taken as zero.
+// The checksum with the four bytes at an offset taken as zero.
 pub fn checksum_zeroed(bytes: &[u8], at: usize) -> u32
     ensures { λ r. ⌜ r ≡ crc (zeroed (now (bytes .entry)) at) ⌝ }
 {

@@ -38,7 +38,7 @@ pub joined : (s : List ℕ) (at m : ℕ) {a b : ℕ} → at + m ≤ length s →
 joined s at m {a} {b} h p q = omega (arith, field-add s at m m h, ap (λ (x : ℕ). x * 256 ^ m) q)
 
 -- two tests for equality that hold together are one
-pub eqb-iff : (a b c d : ℕ) → (a ≡ b → c ≡ d) → (c ≡ d → a ≡ b) → eqb a b ≡ eqb c d
+eqb-iff : (a b c d : ℕ) → (a ≡ b → c ≡ d) → (c ≡ d → a ≡ b) → eqb a b ≡ eqb c d
 eqb-iff a b c d p q = go (eqb a b) refl
   where
     go : (t : Bool) → eqb a b ≡ t → eqb a b ≡ eqb c d

@@ -13,11 +13,11 @@ unfoldable pub le : List ℕ → ℕ
 le [] = 0
 le (b ∷ bs) = b + 256 * le bs
 
--- the number in the n bytes at a place, for every width n
+-- the number in the n bytes at an offset, for every width n
 unfoldable pub field : List ℕ → ℕ → ℕ → ℕ
 field s at n = le (take n (drop at s))
 
--- the identifier of 16 bytes at a place, as its two halves
+-- the identifier of 16 bytes at an offset, as its two halves
 abbrev pub guidAt : List ℕ → ℕ → Guid
 guidAt s at = record { low = field s at 8; high = field s (at + 8) 8 }
 

@@ -49,7 +49,7 @@ pub fn guid_at(s: &[u8], at: usize) -> Guid
     Guid { low, high }
 }
 
-// The 16 bytes at a place are the identifier.
+// The 16 bytes at an offset are the identifier.
 pub fn guid_is(s: &[u8], at: usize, guid: Guid) -> bool
     requires { ⌜ at + 16 ≤ length (now s) ⌝ }
     ensures { λ r. ⌜ r ≡ eqb (field (now (s .entry)) at 16) (number guid) ⌝ }
@@ -61,7 +61,7 @@ pub fn guid_is(s: &[u8], at: usize, guid: Guid) -> bool
     }
 }
 
-// The bytes at a place are the key.
+// The bytes at an offset are the key.
 pub fn bytes_are(s: &[u8], at: usize, key: &[u8]) -> bool
     requires { ⌜ at + length (now key) ≤ length (now s) ⌝ }
     ensures { λ r. ⌜ r ≡ starts (drop at (now (s .entry))) (now (key .entry)) ⌝ }

@@ -12,7 +12,7 @@ pub fn run(b: &mut image::Buffer) {
     lengths(b);
     choice(b);
     rules(b);
-    places(b);
+    log_ranges(b);
     limits(b);
 }
 
@@ -76,7 +76,7 @@ fn rules(b: &mut image::Buffer) {
     report::header(b"log offset 0, identifier zero", b, LENGTH);
 }
 
-fn places(b: &mut image::Buffer) {
+fn log_ranges(b: &mut image::Buffer) {
     field(b, b"log offset 0", 72, 8, 0);
     field(b, b"log offset 1 MiB - 1", 72, 8, MIB - 1);
     field(b, b"log offset 1 MiB + 1", 72, 8, MIB + 1);

@@ -7,7 +7,7 @@ pub const SLOT1: usize = 65536;
 
 pub const SLOT2: usize = 131072;
 
-// Stores the lowest n bytes of a number at a place, where there is room for them.
+// Stores the lowest n bytes of a number at an offset, as far as they fit.
 pub fn put(b: &mut Buffer, at: usize, n: usize, value: u64) {
     let mut x = value;
     let mut i = 0;

@@ -1,11 +1,11 @@
 // One line of output for each case.
 use libc::STDOUT_FILENO;
 
-pub fn text(t: &[u8]) {
+fn text(t: &[u8]) {
     io::write_all(STDOUT_FILENO, t);
 }
 
-pub fn decimal(before: &[u8], n: u64) {
+fn decimal(before: &[u8], n: u64) {
     text(before);
     io::print_decimal(STDOUT_FILENO, n);
 }

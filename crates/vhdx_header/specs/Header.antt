@@ -5,20 +5,21 @@ use mathlib.Core.Bool.{Bool, _&&_, _||_}
 use mathlib.Core.List.{List, [], _∷_}
 use Prim.Native.Nat.{ℕ, _*_}
 use lib.Dec.{eqb, leb}
-use Rattle.field.specs.Fields.{field, guidAt, starts}
+use Rattle.field.specs.declared.Guid.{Guid}
+use Rattle.field.specs.Fields.{field, guidAt, number, starts}
 use Rattle.extent.specs.Extent.{MiB, wholeMiB, inside}
 use Rattle.crc32c.specs.Crc.{crc, zeroed}
 use Rattle.vhdx_header.specs.declared.Header.{Header}
 
--- the fields, each by its place and width
+-- the fields, each by its offset and width
 abbrev pub checksum : List ℕ → ℕ
 checksum h = field h 4 4
 
 abbrev pub sequenceNumber : List ℕ → ℕ
 sequenceNumber h = field h 8 8
 
-abbrev pub logGuid : List ℕ → ℕ
-logGuid h = field h 48 16
+abbrev pub logGuid : List ℕ → Guid
+logGuid h = guidAt h 48
 
 abbrev pub logVersion : List ℕ → ℕ
 logVersion h = field h 64 2
@@ -46,7 +47,7 @@ versionRule h = eqb (version h) 1
 
 -- "LogVersion is 0 unless the log identifier is zero"
 abbrev pub logVersionRule : List ℕ → Bool
-logVersionRule h = eqb (logGuid h) 0 || eqb (logVersion h) 0
+logVersionRule h = eqb (number (logGuid h)) 0 || eqb (logVersion h) 0
 
 -- "log offset and log length are multiples of 1 MiB"
 abbrev pub logOffsetRule : List ℕ → Bool
@@ -81,7 +82,7 @@ contents at h =
     record {
       slot = at;
       «sequence_number» = sequenceNumber h;
-      «log_guid» = guidAt h 48;
+      «log_guid» = logGuid h;
       «log_offset» = logOffset h;
       «log_length» = logLength h;
     }
