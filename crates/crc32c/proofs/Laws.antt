@@ -1,7 +1,7 @@
 -- The laws of CRC-32C that the code rests on: a run of bit steps is linear over xor, so the low byte of a state can be looked up apart.
 -- Assumes nothing.
 use mathlib.Core.Path.{_≡_, refl, sym, ap, ap₂, _∙_}
-use mathlib.Core.List.{List, [], _∷_, _++_}
+use mathlib.Core.List.{List, [], _∷_, _++_, append-assoc}
 use Prim.Native.Nat.{ℕ, zero, suc, _+_, _-_, _*_, _/_, _%_, _^_, _<_, _≤_, min}
 use native.Mathlib.Decide.{decLe}
 use native.Mathlib.Nat.{mod-lt, mul-one, zero-add, suc-add, min-eq-left}
@@ -12,7 +12,7 @@ use lib.Bits.{bitXor, differ, xor-step, xor-comm, xor-shr, xor-mod, xor-shifted,
 use lib.Dec.{lit<}
 use lib.ListN.{length, take, drop, getD, length-drop, drop-of-length-le}
 use lib.Pow.{split}
-use lib.Seq.{drop-cons, take-all, take-length}
+use lib.Seq.{drop-cons, take-all, take-length, take-append-le, drop-append-le}
 use Rattle.crc32c.specs.Crc.{poly, ones, bit, bits, byte, updates, crc, zeroed}
 
 -- ---- the polynomial is Castagnoli's 0x1edc6f41 with its 32 bits in the other order
@@ -161,16 +161,23 @@ rest : (n : ℕ) (l : List ℕ) → take (length l - n) (drop n l) ≡ drop n l
 rest n l = take-all (length l - n) (drop n l) (simp length-drop (omega arith))
 
 -- the bytes before, the zeros and the bytes after, one after the other
-pub crc-zeroed : (s : List ℕ) (at : ℕ) {before after a b r : ℕ}
+pub updates-zeroed : (s : List ℕ) (at : ℕ) {before after a b r : ℕ}
     → before ≡ min at (length s) → after ≡ min 4 (length s - before) + before
     → a ≡ updates ones (take before s) → b ≡ updates a (0 ∷ 0 ∷ 0 ∷ 0 ∷ []) → r ≡ updates b (take (length s - after) (drop after s))
-    → bitXor r ones ≡ crc (zeroed s at)
-unfolding crc zeroed
-crc-zeroed s at {before} {after} {a} {b} p q ea eb er =
+    → r ≡ updates ones (zeroed s at)
+unfolding zeroed
+updates-zeroed s at {before} {after} {a} {b} p q ea eb er =
     let z : List ℕ = 0 ∷ 0 ∷ 0 ∷ 0 ∷ [] in
     let front : a ≡ updates ones (take at s) = ea ∙ ap (updates ones) (ap (λ (k : ℕ). take k s) p ∙ take-least at s) in
     let back : take (length s - after) (drop after s) ≡ drop (at + 4) s =
     rest after s ∙ drop-least at 4 after s (rw p at q) in
-    ap (λ (x : ℕ). bitXor x ones)
-    (er ∙ ap₂ updates (eb ∙ ap (λ (x : ℕ). updates x z) front) back
-    ∙ sym (updates-append ones (take at s) (z ++ drop (at + 4) s) ∙ updates-append (updates ones (take at s)) z (drop (at + 4) s)))
+    er ∙ ap₂ updates (eb ∙ ap (λ (x : ℕ). updates x z) front) back
+    ∙ sym (updates-append ones (take at s) (z ++ drop (at + 4) s) ∙ updates-append (updates ones (take at s)) z (drop (at + 4) s))
+
+-- bytes after the four leave them as they are
+pub zeroed-append : (a b : List ℕ) (at : ℕ) → at + 4 ≤ length a → zeroed (a ++ b) at ≡ zeroed a at ++ b
+unfolding zeroed
+zeroed-append a b at h =
+    let z : List ℕ = 0 ∷ 0 ∷ 0 ∷ 0 ∷ [] in
+    ap₂ (λ (x y : List ℕ). x ++ (z ++ y)) (take-append-le at a b (omega arith)) (drop-append-le (at + 4) a b h)
+    ∙ sym (append-assoc (take at a) (z ++ drop (at + 4) a) b)

@@ -31,9 +31,9 @@ pub fn checksum(bytes: &[u8]) -> u32
     finish(update(START, bytes))
 }
 
-// The checksum with the four bytes at an offset taken as zero.
-pub fn checksum_zeroed(bytes: &[u8], at: usize) -> u32
-    ensures { λ r. ⌜ r ≡ crc (zeroed (now (bytes .entry)) at) ⌝ }
+// The state after a first run of bytes, the four at an offset taken as zero.
+pub fn start_zeroed(bytes: &[u8], at: usize) -> u32
+    ensures { λ r. ⌜ r ≡ updates ones (zeroed (now (bytes .entry)) at) ⌝ }
 {
     let t = table::entries();
     let zeros = [0u8; 4];
@@ -41,7 +41,14 @@ pub fn checksum_zeroed(bytes: &[u8], at: usize) -> u32
     let after = least(4, bytes.len() - before) + before;
     let a = run(&t, START, &bytes[..before]);
     let b = run(&t, a, &zeros);
-    finish(run(&t, b, &bytes[after..]))
+    run(&t, b, &bytes[after..])
+}
+
+// The checksum with the four bytes at an offset taken as zero.
+pub fn checksum_zeroed(bytes: &[u8], at: usize) -> u32
+    ensures { λ r. ⌜ r ≡ crc (zeroed (now (bytes .entry)) at) ⌝ }
+{
+    finish(start_zeroed(bytes, at))
 }
 
 fn run(t: &[u32; 256], state: u32, bytes: &[u8]) -> u32

@@ -1,9 +1,10 @@
--- Ranges of bytes in a file, given by offset and length (document 01, wherever it says "inside" or "multiple of 1 MiB").
+-- Ranges of bytes in a file, given by offset and length (document 01, wherever it says "inside", "sharing a byte" or
+-- "multiple of 1 MiB").
 -- Sums are of whole numbers and never wrap.
 -- Assumes nothing.
-use mathlib.Core.Bool.{Bool}
+use mathlib.Core.Bool.{Bool, _&&_}
 use Prim.Native.Nat.{ℕ, _+_, _%_}
-use lib.Dec.{eqb, leb}
+use lib.Dec.{eqb, leb, ltb}
 
 -- "MiB is 1,048,576 bytes."
 abbrev pub MiB : ℕ
@@ -16,3 +17,7 @@ wholeMiB n = eqb (n % MiB) 0
 -- n bytes at an offset lie inside the first size bytes of a file, also where n is 0
 abbrev pub inside : ℕ → ℕ → ℕ → Bool
 inside offset n size = leb (offset + n) size
+
+-- m bytes at offset a and n bytes at offset b share at least one byte; an empty range shares none, wherever it lies
+abbrev pub shares : ℕ → ℕ → ℕ → ℕ → Bool
+shares a m b n = (ltb 0 m && ltb 0 n) && (ltb a (b + n) && ltb b (a + m))

@@ -1,45 +1,13 @@
--- `crc32c::checksum_zeroed` meets its contract: the bytes before, the zeros and the bytes after, one after the other.
+-- `crc32c::checksum_zeroed` meets its contract.
 -- Assumes nothing.
-use mathlib.Core.Path.{sym, ap, _∙_}
-use Prim.Native.Nat.{ℕ, _+_}
-use native.Mathlib.Omega.{arith}
-use lib.Seq.{length-take-le}
 use borrow.Author.Needs.{needs}
-use Rattle.crc32c.proofs.Laws.{crc-zeroed}
+use Rattle.crc32c.specs.Crc.{crc}
 use Rattle.crc32c.proofs.checksum_zeroed.Statement.{statement}
 use Rattle.crc32c.proofs.checksum_zeroed.Tie as tie
 
-slice-aggregate-run : tie.Need-slice-aggregate-run
-slice-aggregate-run c =
-    let s = c .before .before .before .before .before .before .args .bytes .now in
-    sym (length-take-le (c .before .before .before .least .result) s (omega arith))
-
 returns : tie.Need-returns
-returns c =
-    let second = c .before .before .before .before in
-    let first = second .before .before .before in
-    let ends = first .before .before .before in
-    let a = ends .before .before .before .before .args in
-    c .finish .ensures
-    ∙ crc-zeroed (a .bytes .now) (a .at) (ends .before .least .ensures)
-    (ap (λ (n : ℕ). n + ends .before .least .result) (ends .least2 .ensures)) (first .run .ensures) (second .run2 .ensures) (c .before .run3 .ensures)
+unfolding crc
+returns c = simp (c .finish .ensures, c .before .start-zeroed .ensures)
 
 pub checksum-zeroed-spec : {M : Type 1} → statement M
-checksum-zeroed-spec =
-    tie.close
-    (tie.spec
-    (λ c κs. search needs)
-    (λ c κs. search needs)
-    (λ c. search needs)
-    (λ c κs. search needs)
-    (λ c. search needs)
-    slice-aggregate-run
-    (λ c κs. search needs)
-    (λ c. search needs)
-    (λ c κs. search needs)
-    (λ c. search needs)
-    (λ c. search needs)
-    (λ c. search needs)
-    (λ c κs. search needs)
-    (λ c κs. search needs)
-    returns)
+checksum-zeroed-spec = tie.close (tie.spec (λ c κs. search needs) (λ c κs. search needs) returns)

@@ -1,0 +1,3 @@
+pub mod Sequence
+pub mod Scan
+pub mod Linked
