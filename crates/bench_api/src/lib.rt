@@ -1,0 +1,76 @@
+// What this project's own tests and benchmarks link: the checksum, the plan of a log's work in figures, and one of its
+// sectors. Not for other programs.
+use vhdx_log::Answer;
+use vhdx_log::run::Source;
+use vhdx_log::walk;
+use vhdx_log::walk::Next;
+ghost use mathlib.Core.Path.{_≡_};
+ghost use Prim.Native.Nat.{ℕ};
+ghost use lib.ListN.{getElem?};
+ghost use Rattle.crc32c.specs.Crc.{crc};
+ghost use Rattle.vhdx_log.specs.Plan.{plan};
+ghost use Rattle.vhdx_log.specs.Answers.{logOf};
+ghost use Rattle.bench_api.specs.{refusal, figuresIn, sectorsOf, Answered};
+
+#[no_mangle]
+pub extern "C" fn shrunvaki_bench_crc32c(bytes: &[u8]) -> u32
+    ensures { λ r. ⌜ r ≡ crc (now (bytes .entry)) ⌝ }
+{
+    crc32c::checksum(bytes)
+}
+
+// The refusal's number, or 0 and in the answer the final length and the count.
+#[no_mangle]
+pub extern "C" fn shrunvaki_bench_plan(buffer: &[u8], length: u64, answer: &mut [u64; 2]) -> u64
+    ensures { λ r. ⌜ r ≡ refusal (plan (now (buffer .entry)) length) ⌝ }
+    ensures { λ r. ⌜ now (answer .exit) ≡ figuresIn (plan (now (buffer .entry)) length) (now (answer .entry)) ⌝ }
+{
+    match vhdx_log::plan(buffer, length) {
+        Answer::Refused(number) => {
+            answer[0] = 0;
+            answer[1] = 0;
+            number
+        }
+        Answer::Apply(work) => {
+            answer[0] = work.length;
+            answer[1] = work.count;
+            0
+        }
+    }
+}
+
+// Sector number k of the plan: 0 without one; 1 for zeros, with its offset; 2 for data, with its offset and the offsets in
+// the log of its descriptor and its data sector.
+#[no_mangle]
+pub extern "C" fn shrunvaki_bench_sector(
+    buffer: &[u8],
+    length: u64,
+    k: u64,
+    answer: &mut [u64; 3],
+) -> u64
+    ensures { λ r. ⌜ Answered (logOf (now (buffer .entry)) length) (getElem? (sectorsOf (plan (now (buffer .entry)) length)) k) r (now (answer .entry)) (now (answer .exit)) ⌝ }
+{
+    match vhdx_log::plan(buffer, length) {
+        Answer::Refused(_) => 0,
+        Answer::Apply(work) => {
+            match walk::from(work.cursor).nth(vhdx_log::log(buffer, length), k) {
+                Next::End => 0,
+                Next::Sector(sector) => {
+                    answer[0] = sector.offset;
+                    let source = sector.source;
+                    match source {
+                        Source::Zeros => 1,
+                        Source::Data {
+                            descriptor,
+                            sector: place,
+                        } => {
+                            answer[1] = descriptor as u64;
+                            answer[2] = place as u64;
+                            2
+                        }
+                    }
+                }
+            }
+        }
+    }
+}

@@ -1,0 +1,9 @@
+pub mod Parts
+pub mod Moves
+pub mod Runs
+pub mod Chains
+pub mod Sectors
+pub mod Surveys
+pub mod Decisions
+pub mod Answering
+pub mod Examples

@@ -1,0 +1,123 @@
+-- An entry that a walk reads: where its parts lie in the log, and how long it is.
+-- Assumes nothing.
+use mathlib.Core.Path.{_≡_, sym, ap, _∙_}
+use mathlib.Core.Bool.{Bool, true, false, cond, _&&_, _||_}
+use mathlib.Core.List.{List}
+use Prim.Native.Nat.{ℕ, zero, suc, _+_, _*_, _/_, _%_, _≤_, _<_}
+use native.Mathlib.Decide.{decLt}
+use native.Mathlib.Numerals.{add-one}
+use native.Mathlib.Omega.{arith}
+use lib.ListN.{length, take, drop}
+use lib.Seq.{drop-drop}
+use borrow.Author.Tests.{leb-true, eqb-true}
+use Rattle.field.specs.Fields.{field}
+use Rattle.extent.proofs.Laws.{both}
+use Rattle.vhdx_entry.specs.declared.ring.RingPos.{RingPos}
+use Rattle.vhdx_entry.specs.Ring.{sectorSize, sectorCount, ring, sectorAt, On}
+use Rattle.vhdx_entry.specs.Entry.{descriptor, descriptorStart, descriptorCount, sequenceNumber, entryLength, isData, isZero, wholeSectors, zeroLength, fileOffset, dataBefore, dataCount, size, every, descriptorRule, descriptorsRule}
+use Rattle.vhdx_entry.proofs.Laws.{within-take, length-ring, sector-on, first-field, ring-part}
+use Rattle.vhdx_log.specs.Work.{writes}
+use Rattle.vhdx_log.specs.Plan.{sectorBytes}
+use Rattle.vhdx_log.specs.Walk.{Readable}
+
+-- ---- data descriptors before others
+
+pub data-more : (r : List ℕ) (i : ℕ) → dataBefore r (i + 1) ≡ dataBefore r i + cond (isData (descriptor r i)) 1 0
+unfolding dataBefore
+data-more r i = rw (add-one i)
+
+data-le : (r : List ℕ) (i m : ℕ) → i ≤ m → dataBefore r i ≤ dataBefore r m
+unfolding dataBefore
+data-le r i zero h = let e : i ≡ 0 = omega arith in omega (arith, ap (dataBefore r) e)
+data-le r i (suc m) h = go (decLt m i) (data-le r i m)
+  where
+    go : Dec (m < i) → (i ≤ m → dataBefore r i ≤ dataBefore r m) → dataBefore r i ≤ dataBefore r m + cond (isData (descriptor r m)) 1 0
+    go (yes b) rec = let e : i ≡ suc m = omega arith in omega (arith, ap (dataBefore r) e)
+    go (no b) rec = omega (arith, rec (omega arith))
+
+-- a data descriptor's own is one more of the entry's
+pub data-rank : (r : List ℕ) (i : ℕ) → i < descriptorCount r → isData (descriptor r i) ≡ true → dataBefore r i < dataCount r
+data-rank r i b h =
+    let e : dataBefore r (i + 1) ≡ dataBefore r i + 1 = data-more r i ∙ rw h in
+    let l : dataBefore r (i + 1) ≤ dataCount r = data-le r (i + 1) (descriptorCount r) (omega arith) in
+    omega arith
+
+-- ---- a readable entry
+
+every-at : (f : ℕ → Bool) (m i : ℕ) → every m f ≡ true → i < m → f i ≡ true
+unfolding every
+every-at f zero i h b = absurd (omega arith)
+every-at f (suc m) i h b = go (decLt i m) (every-at f m i) (both (every m f) (f m) h)
+  where
+    go : Dec (i < m) → (every m f ≡ true → i < m → f i ≡ true) → (every m f ≡ true) × (f m ≡ true) → f i ≡ true
+    go (yes c) rec p = rec (p .0) c
+    go (no c) rec p = ap f {x = i} {y = m} (omega arith) ∙ p .1
+
+-- a descriptor that is no data descriptor names whole sectors
+zero-whole : (number : ℕ) (d : List ℕ) → descriptorRule number d ≡ true → isData d ≡ false → zeroLength d % sectorSize ≡ 0
+unfolding descriptorRule
+zero-whole number d h no-data =
+    let p = both (isData d || (isZero d && wholeSectors (zeroLength d))) (wholeSectors (fileOffset d) && _) h .0 in
+    let q : (isZero d && wholeSectors (zeroLength d)) ≡ true = sym (rw no-data) ∙ p in
+    eqb-true (zeroLength d % sectorSize) 0 (both (isZero d) (wholeSectors (zeroLength d)) q .1)
+
+module _ (r : List ℕ) (e : Readable r) where
+  pub size-fits : size r * 4096 ≤ length r
+  size-fits = leb-true (size r * 4096) (length r) (e .fits)
+
+  pub length-exact : entryLength r ≡ size r * 4096
+  length-exact = eqb-true (entryLength r) (size r * 4096) (e .exact)
+
+  -- its descriptors lie in it
+  pub descriptors-fit : (i : ℕ) → i ≤ descriptorCount r → descriptorStart i ≤ length r
+  descriptors-fit i b = omega (arith, size-fits)
+
+  pub zeros-whole : (i : ℕ) → i < descriptorCount r → isData (descriptor r i) ≡ false → zeroLength (descriptor r i) % sectorSize ≡ 0
+  unfolding descriptorsRule
+  zeros-whole i b h =
+      zero-whole (sequenceNumber r) (descriptor r i)
+      (every-at (λ k. descriptorRule (sequenceNumber r) (descriptor r k)) (descriptorCount r) i (e .described) b)
+      h
+
+-- ---- at a position of the ring
+
+module _ (log : List ℕ) (p : RingPos) (on : On log p) where
+  pub same-count : sectorCount log ≡ p .len
+  same-count = omega arith
+
+  pub same-length : length (ring log (p .at)) ≡ length log
+  same-length = length-ring log (p .len) (p .at) (on .1) (on .0)
+
+  -- what the header's sector says is what the entry says
+  pub header-field : (j w : ℕ) → j + w ≤ 4096 → field (sectorAt log (p .at)) j w ≡ field (ring log (p .at)) j w
+  header-field j w h = sym (first-field log (p .len) (p .at) (on .1) (on .0) j w h)
+
+  pub size-within : Readable (ring log (p .at)) → size (ring log (p .at)) ≤ p .len
+  size-within e = omega (arith, size-fits (ring log (p .at)) e, same-length)
+
+  pub size-read : Readable (ring log (p .at)) → entryLength (sectorAt log (p .at)) / 4096 ≡ size (ring log (p .at))
+  size-read e = omega (arith, length-exact (ring log (p .at)) e, header-field 8 4 (omega arith))
+
+  -- descriptor i, read off the log at its place
+  pub descriptor-place : (i : ℕ) → descriptorStart (i + 1) ≤ length log →
+      take 32 (drop ((p .at + (64 + 32 * i) / 4096) % p .len * 4096 + (64 + 32 * i) % 4096) log) ≡ descriptor (ring log (p .at)) i
+  unfolding descriptor sectorAt
+  descriptor-place i h =
+      let start = 64 + 32 * i in
+      let k = start / 4096 in
+      let j = start % 4096 in
+      let m = (p .at + k) % p .len in
+      let same : k * 4096 + j ≡ start = omega arith in
+      sym (within-take 32 j 4096 (drop (m * 4096) log) (omega arith) ∙ ap (take 32) (drop-drop j (m * 4096) log))
+      ∙ sym (ring-part log (p .len) (p .at) (on .1) (on .0) k j 32 (omega arith) (omega arith))
+      ∙ ap (λ (n : ℕ). take 32 (drop n (ring log (p .at)))) same
+
+  -- sector k of the entry, read off the log at its place
+  pub sector-place : (k : ℕ) → k < p .len → take 4096 (drop ((p .at + k) % p .len * 4096) log) ≡ sectorAt (ring log (p .at)) k
+  unfolding sectorAt
+  sector-place k h = sym (sector-on log (p .len) (p .at) (on .1) (on .0) k h)
+
+-- ---- the bytes of a data descriptor's sector
+
+pub writes-same : {a a′ : ℕ} {d d′ s s′ : List ℕ} → a ≡ a′ → d ≡ d′ → s ≡ s′ → writes a (sectorBytes d s) ≡ writes a′ (sectorBytes d′ s′)
+writes-same p q r = cc

@@ -1,0 +1,70 @@
+-- The plan of a log's work, from the bytes of a buffer (document 01, "The log" and "When the gate says no", 1 to 8). What is
+-- read are the first MiB and the log; the lengths of image and buffer are numbers.
+-- Assumes nothing.
+use mathlib.Core.Bool.{cond}
+use mathlib.Core.List.{List, [], _∷_, _++_}
+use mathlib.Core.Option.{Option, none, some}
+use Prim.Native.Nat.{ℕ, zero, suc, _+_, _%_}
+use lib.Dec.{eqb}
+use lib.ListN.{length, take, drop}
+use Rattle.field.specs.Fields.{number}
+use Rattle.vhdx_header.specs.declared.Header.{Header}
+use Rattle.vhdx_header.specs.declared.Answer.{Answer}
+use Rattle.vhdx_header.specs.declared.Answer.the-variants.{Refused, Current}
+use Rattle.vhdx_header.specs.Current.{currentHeader}
+use Rattle.vhdx_entry.specs.Ring.{sectorCount, ring}
+use Rattle.vhdx_entry.specs.Entry.{descriptor, isData, trailingBytes, leadingBytes, zeroLength, fileOffset, dataBefore, dataSector, descriptorCount, flushedFileOffset, lastFileOffset, size}
+use Rattle.vhdx_sequence.specs.declared.Sequence.{Sequence}
+use Rattle.vhdx_sequence.specs.Sequence.{activeSequence}
+use Rattle.vhdx_log.specs.Work.{Descriptor, writes, zeros, LogEntry, Entries, only, then, Extent, Plan, refused, work, applyWithin}
+
+-- "A data sector is LeadingBytes, the 4,084 bytes, TrailingBytes.": of a data descriptor d and its data sector s
+unfoldable pub sectorBytes : List ℕ → List ℕ → List ℕ
+sectorBytes d s = leadingBytes d ++ (take 4084 (drop 8 s) ++ trailingBytes d)
+
+-- descriptor i of the entry r: the data sector of a data descriptor is that of its rank among them
+unfoldable pub descriptorOf : List ℕ → ℕ → Descriptor
+descriptorOf r i =
+    let d = descriptor r i in
+    cond (isData d) (writes (fileOffset d) (sectorBytes d (dataSector r (dataBefore r i)))) (zeros (fileOffset d) (zeroLength d))
+
+-- m descriptors from number i on
+unfoldable pub descriptorsFrom : List ℕ → ℕ → ℕ → List Descriptor
+descriptorsFrom r i zero = []
+descriptorsFrom r i (suc m) = descriptorOf r i ∷ descriptorsFrom r (i + 1) m
+
+abbrev pub logEntry : List ℕ → LogEntry
+logEntry r =
+    record { flushed = flushedFileOffset r; last = lastFileOffset r; descriptors = descriptorsFrom r 0 (descriptorCount r) }
+
+-- the entry at sector s of the log and the k after it, "each starting where the one before ended"
+unfoldable pub entriesFrom : List ℕ → ℕ → ℕ → Entries
+entriesFrom log s zero = only (logEntry (ring log s))
+entriesFrom log s (suc k) = then (logEntry (ring log s)) (entriesFrom log ((s + size (ring log s)) % sectorCount log) k)
+
+-- the log's bytes in a buffer
+unfoldable pub logBytes : Header → List ℕ → List ℕ
+logBytes h buffer = take (h .«log_length») (drop (h .«log_offset») buffer)
+
+abbrev pub extentOf : Header → Extent
+extentOf h = record { offset = h .«log_offset»; length = h .«log_length» }
+
+-- 5: "log identifier not zero and no log sequence exists"
+unfoldable pub planSequence : Extent → List ℕ → ℕ → ℕ → Option Sequence → Plan
+planSequence extent log n capacity none = refused 5
+planSequence extent log n capacity (some q) = work extent (entriesFrom log (q .start) (q .more)) n capacity
+
+-- "Log identifier zero: no active sequence, no sectors, no growth."; 8 still applies to the length itself
+unfoldable pub planLog : Header → List ℕ → ℕ → ℕ → Plan
+planLog h log n capacity =
+    cond (eqb (number (h .«log_guid»)) 0) (applyWithin capacity n [])
+    (planSequence (extentOf h) log n capacity (activeSequence log (h .«log_guid»)))
+
+-- 1 to 4 as the header's reader decides them
+unfoldable pub planHeader : Answer → List ℕ → ℕ → Plan
+planHeader (Refused c) buffer n = refused c
+planHeader (Current h) buffer n = planLog h (logBytes h buffer) n (length buffer)
+
+-- of the image that is the first n bytes of a buffer
+unfoldable pub plan : List ℕ → ℕ → Plan
+plan buffer n = planHeader (currentHeader buffer n) buffer n

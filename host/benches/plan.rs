@@ -1,0 +1,100 @@
+//! `plan` on logs of 64 MiB that an attacker would choose, against one pass of the project's own CRC-32C over 64 MiB in the
+//! same run. Prints the ratios; exits with status 1 where one is above the limit.
+use shrunvaki_host::api::{self, Plan};
+use shrunvaki_host::image::{seal, Descriptor, Entry, Image, GUID, MIB, SECTOR};
+use std::hint::black_box;
+use std::time::{Duration, Instant};
+
+const LOG: usize = 64 * MIB;
+const SECTORS: usize = LOG / SECTOR;
+const LIMIT: f64 = 4.0;
+
+fn image() -> Image {
+    Image::new(LOG + 4 * MIB, (LOG + 3 * MIB) as u64, LOG, GUID)
+}
+
+/// One entry whose descriptors and data sectors fill the log.
+fn one_entry() -> Image {
+    let data = SECTORS - 128;
+    let bytes = vec![7; SECTOR];
+    let mut entry = Entry::new(1, 0);
+    entry.descriptors = vec![Descriptor::Data { offset: (LOG + 2 * MIB) as u64, bytes }; data];
+    assert_eq!(entry.sectors(), (128, data));
+    let mut image = image();
+    image.entry(0, &entry);
+    image
+}
+
+/// 16,384 valid entries of one sector, in one chain that begins in the middle of the ring.
+fn chain() -> Image {
+    let mut image = image();
+    let start = SECTORS / 2;
+    for i in 0..SECTORS {
+        let mut entry = Entry::new(1 + i as u64, start);
+        entry.descriptors =
+            vec![Descriptor::Zero { offset: (LOG + 2 * MIB) as u64, length: 4096 }; 126];
+        image.entry((start + i) % SECTORS, &entry);
+    }
+    image
+}
+
+/// 16,384 candidates of one sector that are valid but for their checksum.
+fn bad_checksums() -> Image {
+    let mut image = chain();
+    for sector in image.log_mut().chunks_mut(SECTOR) {
+        sector[4] ^= 1;
+    }
+    image
+}
+
+/// In every sector a header with the largest DescriptorCount and EntryLength that the log's length allows, and descriptors
+/// that keep their rule to the sector's end.
+fn greedy_headers() -> Image {
+    let mut image = chain();
+    let count = ((LOG - 64) / 32) as u32;
+    for sector in image.log_mut().chunks_mut(SECTOR) {
+        sector[8..12].copy_from_slice(&(LOG as u32).to_le_bytes());
+        sector[24..28].copy_from_slice(&count.to_le_bytes());
+        seal(sector);
+    }
+    image
+}
+
+/// The best of some runs: what else the machine does only adds.
+fn time<T>(mut work: impl FnMut() -> T) -> Duration {
+    (0..5)
+        .map(|_| {
+            let start = Instant::now();
+            black_box(work());
+            start.elapsed()
+        })
+        .min()
+        .expect("some runs")
+}
+
+fn main() {
+    let bytes: Vec<u8> = (0..LOG).map(|i| (i ^ (i >> 8)) as u8).collect();
+    let pass = time(|| api::crc32c(black_box(&bytes)));
+    println!("one pass of crc32c over 64 MiB: {:.1} ms", pass.as_secs_f64() * 1e3);
+    let length = (LOG + 3 * MIB) as u64;
+    let applied = |count| Plan::Apply { length, count };
+    let cases: [(&str, fn() -> Image, Plan); 4] = [
+        ("one entry that fills the log", one_entry, applied(SECTORS as u64 - 128)),
+        ("16,384 valid entries in one chain", chain, applied(126 * SECTORS as u64)),
+        ("16,384 candidates with a wrong checksum", bad_checksums, Plan::Refused(5)),
+        ("a greedy header in every sector", greedy_headers, Plan::Refused(5)),
+    ];
+    let mut slow = false;
+    for (name, build, expected) in cases {
+        let image = build();
+        assert_eq!(api::plan(&image.buffer, image.length), expected, "{name}");
+        let taken = time(|| api::plan(black_box(&image.buffer), image.length));
+        let ratio = taken.as_secs_f64() / pass.as_secs_f64();
+        slow |= ratio > LIMIT;
+        println!("{name}: {:.1} ms, {ratio:.2} passes", taken.as_secs_f64() * 1e3);
+    }
+    if slow {
+        println!("above {LIMIT} passes");
+        std::process::exit(1);
+    }
+}

@@ -1,0 +1,3 @@
+//! The proved functions as safe Rust, and a builder of VHDX images for tests and benchmarks.
+pub mod api;
+pub mod image;
