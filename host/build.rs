@@ -5,7 +5,10 @@ fn main() {
     let folder = Path::new(env!("CARGO_MANIFEST_DIR")).join("../target/staticlib");
     let archive = folder.join("libbench_api.a");
     if !archive.exists() {
-        panic!("{} is missing: run `rt staticlib bench_api` first", archive.display());
+        panic!(
+            "{} is missing: run `rt staticlib bench_api` first",
+            archive.display()
+        );
     }
     println!("cargo:rerun-if-changed={}", archive.display());
     println!("cargo:rustc-link-search=native={}", folder.display());

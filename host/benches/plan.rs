@@ -9,6 +9,9 @@ const LOG: usize = 64 * MIB;
 const SECTORS: usize = LOG / SECTOR;
 const LIMIT: f64 = 4.0;
 
+/// Builds the image of a case.
+type Build = fn() -> Image;
+
 fn image() -> Image {
     Image::new(LOG + 4 * MIB, (LOG + 3 * MIB) as u64, LOG, GUID)
 }
@@ -18,7 +21,13 @@ fn one_entry() -> Image {
     let data = SECTORS - 128;
     let bytes = vec![7; SECTOR];
     let mut entry = Entry::new(1, 0);
-    entry.descriptors = vec![Descriptor::Data { offset: (LOG + 2 * MIB) as u64, bytes }; data];
+    entry.descriptors = vec![
+        Descriptor::Data {
+            offset: (LOG + 2 * MIB) as u64,
+            bytes
+        };
+        data
+    ];
     assert_eq!(entry.sectors(), (128, data));
     let mut image = image();
     image.entry(0, &entry);
@@ -31,8 +40,13 @@ fn chain() -> Image {
     let start = SECTORS / 2;
     for i in 0..SECTORS {
         let mut entry = Entry::new(1 + i as u64, start);
-        entry.descriptors =
-            vec![Descriptor::Zero { offset: (LOG + 2 * MIB) as u64, length: 4096 }; 126];
+        entry.descriptors = vec![
+            Descriptor::Zero {
+                offset: (LOG + 2 * MIB) as u64,
+                length: 4096
+            };
+            126
+        ];
         image.entry((start + i) % SECTORS, &entry);
     }
     image
@@ -75,14 +89,33 @@ fn time<T>(mut work: impl FnMut() -> T) -> Duration {
 fn main() {
     let bytes: Vec<u8> = (0..LOG).map(|i| (i ^ (i >> 8)) as u8).collect();
     let pass = time(|| api::crc32c(black_box(&bytes)));
-    println!("one pass of crc32c over 64 MiB: {:.1} ms", pass.as_secs_f64() * 1e3);
+    println!(
+        "one pass of crc32c over 64 MiB: {:.1} ms",
+        pass.as_secs_f64() * 1e3
+    );
     let length = (LOG + 3 * MIB) as u64;
     let applied = |count| Plan::Apply { length, count };
-    let cases: [(&str, fn() -> Image, Plan); 4] = [
-        ("one entry that fills the log", one_entry, applied(SECTORS as u64 - 128)),
-        ("16,384 valid entries in one chain", chain, applied(126 * SECTORS as u64)),
-        ("16,384 candidates with a wrong checksum", bad_checksums, Plan::Refused(5)),
-        ("a greedy header in every sector", greedy_headers, Plan::Refused(5)),
+    let cases: [(&str, Build, Plan); 4] = [
+        (
+            "one entry that fills the log",
+            one_entry,
+            applied(SECTORS as u64 - 128),
+        ),
+        (
+            "16,384 valid entries in one chain",
+            chain,
+            applied(126 * SECTORS as u64),
+        ),
+        (
+            "16,384 candidates with a wrong checksum",
+            bad_checksums,
+            Plan::Refused(5),
+        ),
+        (
+            "a greedy header in every sector",
+            greedy_headers,
+            Plan::Refused(5),
+        ),
     ];
     let mut slow = false;
     for (name, build, expected) in cases {
@@ -91,7 +124,10 @@ fn main() {
         let taken = time(|| api::plan(black_box(&image.buffer), image.length));
         let ratio = taken.as_secs_f64() / pass.as_secs_f64();
         slow |= ratio > LIMIT;
-        println!("{name}: {:.1} ms, {ratio:.2} passes", taken.as_secs_f64() * 1e3);
+        println!(
+            "{name}: {:.1} ms, {ratio:.2} passes",
+            taken.as_secs_f64() * 1e3
+        );
     }
     if slow {
         println!("above {LIMIT} passes");

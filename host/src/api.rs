@@ -2,7 +2,12 @@
 
 extern "C" {
     fn shrunvaki_bench_crc32c(bytes: *const u8, length: usize) -> u32;
-    fn shrunvaki_bench_plan(buffer: *const u8, capacity: usize, length: u64, answer: *mut u64) -> u64;
+    fn shrunvaki_bench_plan(
+        buffer: *const u8,
+        capacity: usize,
+        length: u64,
+        answer: *mut u64,
+    ) -> u64;
     fn shrunvaki_bench_sector(
         buffer: *const u8,
         capacity: usize,
@@ -22,9 +27,15 @@ pub enum Plan {
 /// A sector to write: its offset in the file, and where its bytes are.
 #[derive(Debug, PartialEq, Eq, Clone, Copy)]
 pub enum Sector {
-    Zeros { offset: u64 },
+    Zeros {
+        offset: u64,
+    },
     /// `descriptor` and `sector` are offsets in the log.
-    Data { offset: u64, descriptor: u64, sector: u64 },
+    Data {
+        offset: u64,
+        descriptor: u64,
+        sector: u64,
+    },
 }
 
 pub fn crc32c(bytes: &[u8]) -> u32 {
@@ -34,8 +45,13 @@ pub fn crc32c(bytes: &[u8]) -> u32 {
 /// Of the image that is the first `length` bytes of the buffer.
 pub fn plan(buffer: &[u8], length: u64) -> Plan {
     let mut answer = [0u64; 2];
-    match unsafe { shrunvaki_bench_plan(buffer.as_ptr(), buffer.len(), length, answer.as_mut_ptr()) } {
-        0 => Plan::Apply { length: answer[0], count: answer[1] },
+    match unsafe {
+        shrunvaki_bench_plan(buffer.as_ptr(), buffer.len(), length, answer.as_mut_ptr())
+    } {
+        0 => Plan::Apply {
+            length: answer[0],
+            count: answer[1],
+        },
         refusal => Plan::Refused(refusal),
     }
 }
@@ -44,11 +60,21 @@ pub fn plan(buffer: &[u8], length: u64) -> Plan {
 pub fn sector(buffer: &[u8], length: u64, k: u64) -> Option<Sector> {
     let mut answer = [0u64; 3];
     let kind = unsafe {
-        shrunvaki_bench_sector(buffer.as_ptr(), buffer.len(), length, k, answer.as_mut_ptr())
+        shrunvaki_bench_sector(
+            buffer.as_ptr(),
+            buffer.len(),
+            length,
+            k,
+            answer.as_mut_ptr(),
+        )
     };
     match kind {
         0 => None,
         1 => Some(Sector::Zeros { offset: answer[0] }),
-        _ => Some(Sector::Data { offset: answer[0], descriptor: answer[1], sector: answer[2] }),
+        _ => Some(Sector::Data {
+            offset: answer[0],
+            descriptor: answer[1],
+            sector: answer[2],
+        }),
     }
 }

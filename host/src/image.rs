@@ -12,7 +12,11 @@ pub fn crc32c(pieces: &[&[u8]]) -> u32 {
     for (i, slot) in table.iter_mut().enumerate() {
         let mut state = i as u32;
         for _ in 0..8 {
-            state = if state & 1 == 1 { (state >> 1) ^ 0x82f6_3b78 } else { state >> 1 };
+            state = if state & 1 == 1 {
+                (state >> 1) ^ 0x82f6_3b78
+            } else {
+                state >> 1
+            };
         }
         *slot = state;
     }
@@ -77,7 +81,11 @@ impl Entry {
     /// The sectors of the header and the descriptors, and the data sectors behind them.
     pub fn sectors(&self) -> (usize, usize) {
         let front = (64 + 32 * self.descriptors.len()).div_ceil(SECTOR);
-        let data = self.descriptors.iter().filter(|d| matches!(d, Descriptor::Data { .. })).count();
+        let data = self
+            .descriptors
+            .iter()
+            .filter(|d| matches!(d, Descriptor::Data { .. }))
+            .count();
         (front, data)
     }
 
@@ -142,7 +150,11 @@ impl Image {
         put32(header, 68, log_length as u32);
         put64(header, 72, MIB as u64);
         seal(header);
-        Image { buffer, length, log_length }
+        Image {
+            buffer,
+            length,
+            log_length,
+        }
     }
 
     /// An image of 3 MiB in a buffer of 4 MiB, with a log of 1 MiB.

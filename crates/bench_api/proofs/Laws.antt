@@ -1,14 +1,14 @@
 -- What the exported functions write into an answer, and the sectors of an answered plan.
 -- Assumes nothing.
 use mathlib.Core.Path.{_≡_, refl, sym, ap, _∙_, subst}
-use mathlib.Core.List.{List, []}
-use mathlib.Core.Option.{Option, none, some}
+use mathlib.Core.List.{List}
+use mathlib.Core.Option.{Option, none}
 use Prim.Native.Nat.{ℕ}
 use lib.ListN.{length, set, getElem?}
-use Rattle.vhdx_log.specs.Work.{Plan, refused, apply, Sector, count, sectors}
+use Rattle.vhdx_log.specs.Work.{Plan, Sector, count, sectors}
 use Rattle.vhdx_log.specs.Walk.{descriptorsLeft}
 use Rattle.vhdx_log.specs.Steps.{sectorsLeft, nextOf, walkFrom, Ready}
-use Rattle.vhdx_log.specs.Answers.{logOf, planIn, countOf, ReadyIn}
+use Rattle.vhdx_log.specs.Answers.{planIn, countOf, ReadyIn}
 use Rattle.vhdx_log.specs.declared.Answer.{Answer}
 use Rattle.vhdx_log.specs.declared.Answer.the-variants.{Refused, Apply}
 use Rattle.vhdx_log.specs.declared.Work.{Work}

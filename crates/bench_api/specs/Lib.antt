@@ -5,7 +5,7 @@ use mathlib.Core.List.{List, []}
 use mathlib.Core.Option.{Option}
 use mathlib.Core.Path.{_≡_}
 use Prim.Native.Nat.{ℕ}
-use lib.ListN.{length, set}
+use lib.ListN.{set}
 use Rattle.vhdx_log.specs.Work.{Plan, refused, apply, count, Sector}
 use Rattle.vhdx_log.specs.Steps.{nextOf}
 use Rattle.vhdx_log.specs.declared.run.Source.{Source}

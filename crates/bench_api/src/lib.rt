@@ -5,7 +5,6 @@ use vhdx_log::run::Source;
 use vhdx_log::walk;
 use vhdx_log::walk::Next;
 ghost use mathlib.Core.Path.{_≡_};
-ghost use Prim.Native.Nat.{ℕ};
 ghost use lib.ListN.{getElem?};
 ghost use Rattle.crc32c.specs.Crc.{crc};
 ghost use Rattle.vhdx_log.specs.Plan.{plan};

@@ -13,7 +13,7 @@ use lib.Dec.{lit<}
 use lib.ListN.{length, take, drop, getD, length-drop, drop-of-length-le}
 use lib.Pow.{split}
 use lib.Seq.{drop-cons, take-all, take-length, take-append-le, drop-append-le}
-use Rattle.crc32c.specs.Crc.{poly, ones, bit, bits, byte, updates, crc, zeroed}
+use Rattle.crc32c.specs.Crc.{poly, ones, bit, bits, byte, updates, zeroed}
 
 -- ---- the polynomial is Castagnoli's 0x1edc6f41 with its 32 bits in the other order
 

@@ -1,7 +1,7 @@
 -- Whether a range lies inside, and whether two share a byte, by tests that form no sum; a range in two parts.
 -- Assumes nothing.
 use mathlib.Core.Path.{_≡_, refl, sym, _∙_}
-use mathlib.Core.Bool.{Bool, true, false, _&&_, _||_}
+use mathlib.Core.Bool.{Bool, true, false, _&&_, _||_, and-eq-true-iff}
 use mathlib.Core.Logic.{_⊎_, inl, inr, ⊎-elim}
 use Prim.Native.Nat.{ℕ, _+_, _-_, _≤_, _<_}
 use native.Mathlib.Omega.{arith}
@@ -29,10 +29,6 @@ iff true y p q = sym (p refl)
 iff false true p q = q refl
 iff false false p q = refl
 
-pub both : (x y : Bool) → (x && y) ≡ true → (x ≡ true) × (y ≡ true)
-both true y h = (refl, h)
-both false y h = let z : _≡_ {A = ℕ} 0 1 = cc in absurd (omega arith)
-
 pub either : (x y : Bool) → (x || y) ≡ true → (x ≡ true) ⊎ (y ≡ true)
 either true y h = inl refl
 either false y h = inr h
@@ -47,9 +43,9 @@ right false y h = h
 module _ (a m b n : ℕ) where
   pub sharing : shares a m b n ≡ true → (0 < m) × (0 < n) × (a < b + n) × (b < a + m)
   sharing h =
-      let (p, q) = both (ltb 0 m && ltb 0 n) (ltb a (b + n) && ltb b (a + m)) h in
-      let (x, y) = both (ltb 0 m) (ltb 0 n) p in
-      let (z, w) = both (ltb a (b + n)) (ltb b (a + m)) q in
+      let (p, q) = and-eq-true-iff (ltb 0 m && ltb 0 n) (ltb a (b + n) && ltb b (a + m)) .0 h in
+      let (x, y) = and-eq-true-iff (ltb 0 m) (ltb 0 n) .0 p in
+      let (z, w) = and-eq-true-iff (ltb a (b + n)) (ltb b (a + m)) .0 q in
       (ltb-true 0 m x, ltb-true 0 n y, ltb-true a (b + n) z, ltb-true b (a + m) w)
 
   pub share : 0 < m → 0 < n → a < b + n → b < a + m → shares a m b n ≡ true
@@ -60,7 +56,7 @@ module _ (a m b n : ℕ) where
     where
       there : (ltb 0 n && ltb (b - a) m) ≡ true → shares a m b n ≡ true
       there e =
-          let (p, q) = both (ltb 0 n) (ltb (b - a) m) e in
+          let (p, q) = and-eq-true-iff (ltb 0 n) (ltb (b - a) m) .0 e in
           let x : 0 < n = ltb-true 0 n p in
           let y : b - a < m = ltb-true (b - a) m q in
           share (omega arith) x (omega arith) (omega arith)
@@ -73,7 +69,7 @@ module _ (a m b n : ℕ) where
     where
       there : (ltb 0 m && ltb (a - b) n) ≡ true → shares a m b n ≡ true
       there e =
-          let (p, q) = both (ltb 0 m) (ltb (a - b) n) e in
+          let (p, q) = and-eq-true-iff (ltb 0 m) (ltb (a - b) n) .0 e in
           let x : 0 < m = ltb-true 0 m p in
           let y : a - b < n = ltb-true (a - b) n q in
           share x (omega arith) (omega arith) (omega arith)

@@ -1,23 +1,21 @@
--- The clauses of a valid entry, put together as the code tests them: what a failed test says of the whole, and what all of
--- them together say.
+-- The clauses of a valid entry, put together as the code tests them: what a failed test says of the whole, what all of them
+-- together say, and what a valid entry keeps to.
 -- Assumes nothing.
 use mathlib.Core.Path.{_≡_, refl, sym, ap, ap₂, _∙_}
-use mathlib.Core.Bool.{Bool, true, false, _&&_}
+use mathlib.Core.Bool.{Bool, true, false, _&&_, and-eq-true-iff, and-false, and-assoc}
 use mathlib.Core.List.{List}
-use mathlib.Core.Option.{Option, none, some}
+use mathlib.Core.Option.{none, some}
 use Prim.Native.Nat.{ℕ, _+_, _-_, _*_, _/_, _≤_, _<_}
 use native.Mathlib.Omega.{arith}
-use lib.Dec.{eqb, leb}
+use lib.Dec.{eqb}
 use lib.ListN.{length, take}
 use borrow.Author.Tests.{eq-eqb, ne-eqb, lt-leb, le-leb, leb-true}
 use Rattle.field.specs.declared.Guid.{Guid}
-use Rattle.field.specs.Fields.{field, number}
+use Rattle.field.specs.Fields.{number}
 use Rattle.crc32c.specs.Crc.{crc, zeroed}
 use Rattle.vhdx_entry.specs.Ring.{ring, sectorAt}
-use Rattle.vhdx_entry.specs.Entry.{checksum, entryLength, tail, sequenceNumber, descriptorCount, descriptorSectors, descriptor, dataBefore, dataCount, dataSector, size, every, descriptorRule, dataSectorRule, headerRule, fitsRule, descriptorsRule, entryLengthRule, dataSectorsRule, checksumRule, validEntry, onlyIf, contents, entryAt, tallyOf, slotOf}
+use Rattle.vhdx_entry.specs.Entry.{checksum, entryLength, tail, sequenceNumber, descriptorCount, descriptorSectors, descriptor, dataBefore, dataCount, size, every, descriptorRule, dataSectorRule, headerRule, signatureRule, guidRule, tailRule, numberRule, fitsRule, descriptorsRule, entryLengthRule, dataSectorsRule, checksumRule, validEntry, onlyIf, contents, entryAt, tallyOf}
 use Rattle.vhdx_entry.specs.declared.Entry.{Entry}
-use Rattle.vhdx_entry.specs.declared.Slot.{Slot}
-use Rattle.vhdx_entry.specs.declared.Slot.the-variants.{Valid, Empty}
 use Rattle.vhdx_entry.specs.declared.body.Tally.{Tally}
 use Rattle.vhdx_entry.specs.declared.body.Tally.the-variants.{Whole, Broken}
 use Rattle.vhdx_entry.proofs.Laws.{length-ring, first-field}
@@ -29,18 +27,6 @@ onlyIf-none false a h = refl
 pub onlyIf-some : {A : Type 0} (b : Bool) (a : A) {x : A} → some x ≡ onlyIf b a → (b ≡ true) × (x ≡ a)
 onlyIf-some true a h = (refl, cc)
 onlyIf-some false a h = let z : _≡_ {A = ℕ} 0 1 = cc in absurd (omega arith)
-
-pub both : (x y : Bool) → (x && y) ≡ true → (x ≡ true) × (y ≡ true)
-both true y h = (refl, h)
-both false y h = let z : _≡_ {A = ℕ} 0 1 = cc in absurd (omega arith)
-
-and-no : (x : Bool) {y : Bool} → y ≡ false → (x && y) ≡ false
-and-no true h = h
-and-no false h = refl
-
-and-assoc : (x y z : Bool) → (x && (y && z)) ≡ ((x && y) && z)
-and-assoc true y z = refl
-and-assoc false y z = refl
 
 module _ (r : List ℕ) where
   rules-are : {count number : ℕ} → count ≡ descriptorCount r → number ≡ sequenceNumber r
@@ -61,7 +47,7 @@ module _ (r : List ℕ) where
 
     pub descriptor-broken : t ≡ Broken → none ≡ onlyIf (fitsRule r && descriptorsRule r) (size r)
     descriptor-broken h =
-        sym (ap (λ (b : Bool). onlyIf b (size r)) (and-no (fitsRule r) (onlyIf-none (descriptorsRule r) (dataCount r) (sym (ap tallyOf h) ∙ counted))))
+        sym (ap (λ (b : Bool). onlyIf b (size r)) (ap (λ (x : Bool). fitsRule r && x) (onlyIf-none (descriptorsRule r) (dataCount r) (sym (ap tallyOf h) ∙ counted)) ∙ and-false (fitsRule r)))
 
     module _ {d : ℕ} (h : t ≡ Whole d) where
       whole : (descriptorsRule r ≡ true) × (d ≡ dataCount r)
@@ -118,6 +104,18 @@ unfolding headerRule
 header-in guid log n s w b =
     rw (first-field log n s w b 0 4 (omega arith), first-field log n s w b 32 16 (omega arith), first-field log n s w b 12 4 (omega arith), first-field log n s w b 16 8 (omega arith), length-ring log n s w b)
 
+-- what `size` and what `ends_well` decide
+abbrev sizeRules : List ℕ → Bool
+sizeRules r = fitsRule r && descriptorsRule r
+
+abbrev endRules : List ℕ → Bool
+endRules r = entryLengthRule r && (dataSectorsRule r && checksumRule r)
+
+valid-parts : (guid : Guid) (r : List ℕ) → validEntry guid r ≡ (headerRule guid (length r) r && (sizeRules r && endRules r))
+unfolding validEntry
+valid-parts guid r =
+    ap (λ (b : Bool). headerRule guid (length r) r && b) (sym (and-assoc (fitsRule r) (descriptorsRule r) (endRules r)))
+
 module _ (guid : Guid) (log : List ℕ) (s : ℕ) where
   nothing-at : validEntry guid (ring log s) ≡ false → none ≡ entryAt log guid s
   unfolding entryAt
@@ -128,45 +126,34 @@ module _ (guid : Guid) (log : List ℕ) (s : ℕ) where
   something-at h p = ap some p ∙ sym (ap (λ (b : Bool). onlyIf b (contents (ring log s))) h)
 
   module _ {t : Bool} (p : t ≡ headerRule guid (length (ring log s)) (ring log s)) where
-    header-false : t ≡ false → validEntry guid (ring log s) ≡ false
-    unfolding validEntry
-    header-false h =
-        ap (λ (b : Bool). b && (fitsRule (ring log s) && (descriptorsRule (ring log s) && (entryLengthRule (ring log s) && (dataSectorsRule (ring log s) && checksumRule (ring log s)))))) (sym p ∙ h)
+    parts : validEntry guid (ring log s) ≡ (t && (sizeRules (ring log s) && endRules (ring log s)))
+    parts = valid-parts guid (ring log s) ∙ ap (λ (b : Bool). b && (sizeRules (ring log s) && endRules (ring log s))) (sym p)
 
     pub bad-header : t ≡ false → none ≡ entryAt log guid s
-    bad-header h = nothing-at (header-false h)
+    bad-header h = nothing-at (parts ∙ ap (λ (b : Bool). b && (sizeRules (ring log s) && endRules (ring log s))) h)
 
-    module _ (z : Tally) (q : tallyOf z ≡ onlyIf (fitsRule (ring log s) && descriptorsRule (ring log s)) (size (ring log s))) where
-      size-false : z ≡ Broken → validEntry guid (ring log s) ≡ false
-      unfolding validEntry
-      size-false h =
-          and-no (headerRule guid (length (ring log s)) (ring log s))
-          (and-assoc (fitsRule (ring log s)) (descriptorsRule (ring log s)) _
-          ∙ ap (λ (b : Bool). b && (entryLengthRule (ring log s) && (dataSectorsRule (ring log s) && checksumRule (ring log s)))) (onlyIf-none (fitsRule (ring log s) && descriptorsRule (ring log s)) (size (ring log s)) (sym (ap tallyOf h) ∙ q)))
-
+    module _ (z : Tally) (q : tallyOf z ≡ onlyIf (sizeRules (ring log s)) (size (ring log s))) where
       pub no-size : z ≡ Broken → none ≡ entryAt log guid s
-      no-size h = nothing-at (size-false h)
+      no-size h =
+          let no = onlyIf-none (sizeRules (ring log s)) (size (ring log s)) (sym (ap tallyOf h) ∙ q) in
+          nothing-at (parts ∙ ap (λ (b : Bool). t && (b && endRules (ring log s))) no ∙ and-false t)
 
       module _ {k : ℕ} (h : z ≡ Whole k) where
-        pub size-is : k ≡ size (ring log s)
-        size-is = onlyIf-some (fitsRule (ring log s) && descriptorsRule (ring log s)) (size (ring log s)) (sym (ap tallyOf h) ∙ q) .1
+        sized : (sizeRules (ring log s) ≡ true) × (k ≡ size (ring log s))
+        sized = onlyIf-some (sizeRules (ring log s)) (size (ring log s)) (sym (ap tallyOf h) ∙ q)
 
-        fits-and : (fitsRule (ring log s) && descriptorsRule (ring log s)) ≡ true
-        fits-and = onlyIf-some (fitsRule (ring log s) && descriptorsRule (ring log s)) (size (ring log s)) (sym (ap tallyOf h) ∙ q) .0
+        pub size-is : k ≡ size (ring log s)
+        size-is = sized .1
 
         pub size-fits : {n : ℕ} → length log ≡ n * 4096 → s < n → k ≤ n
         size-fits {n} w b =
-            let l : size (ring log s) * 4096 ≤ length (ring log s) =
-            leb-true (size (ring log s) * 4096) (length (ring log s)) (both (fitsRule (ring log s)) (descriptorsRule (ring log s)) fits-and .0) in
+            let fits = and-eq-true-iff (fitsRule (ring log s)) (descriptorsRule (ring log s)) .0 (sized .0) .0 in
+            let l : size (ring log s) * 4096 ≤ length (ring log s) = leb-true (size (ring log s) * 4096) (length (ring log s)) fits in
             omega (arith, size-is, length-ring log n s w b)
 
-        module _ (yes : t ≡ true) {u : Bool} (e : u ≡ (entryLengthRule (ring log s) && (dataSectorsRule (ring log s) && checksumRule (ring log s)))) where
+        module _ (yes : t ≡ true) {u : Bool} (e : u ≡ endRules (ring log s)) where
           valid-is : validEntry guid (ring log s) ≡ u
-          unfolding validEntry
-          valid-is =
-              ap₂ (λ (x y : Bool). x && y) {x = headerRule guid (length (ring log s)) (ring log s)} (sym p ∙ yes)
-              (and-assoc (fitsRule (ring log s)) (descriptorsRule (ring log s)) (entryLengthRule (ring log s) && (dataSectorsRule (ring log s) && checksumRule (ring log s))))
-              ∙ ap₂ (λ (x y : Bool). x && y) fits-and (sym e)
+          valid-is = parts ∙ ap₂ (λ (x y : Bool). x && (y && endRules (ring log s))) yes (sized .0) ∙ sym e
 
           pub bad-end : u ≡ false → none ≡ entryAt log guid s
           bad-end g = nothing-at (valid-is ∙ g)
@@ -174,3 +161,31 @@ module _ (guid : Guid) (log : List ℕ) (s : ℕ) where
           pub valid-at : u ≡ true → {m l : ℕ} → m ≡ sequenceNumber (ring log s) → l ≡ tail (ring log s) / 4096
               → some (record { size = k; number = m; tail = l }) ≡ entryAt log guid s
           valid-at g a b = something-at (valid-is ∙ g) (λ i. record { size = size-is i; number = a i; tail = b i })
+
+-- ---- what a valid entry keeps to
+
+pub record Keeps (r : List ℕ) : Type 0 where
+  pub signed : signatureRule r ≡ true
+  pub tailed : tailRule (length r) r ≡ true
+  pub fits : fitsRule r ≡ true
+  pub described : descriptorsRule r ≡ true
+  pub exact : entryLengthRule r ≡ true
+  pub filled : dataSectorsRule r ≡ true
+
+pub keeps : (guid : Guid) (r : List ℕ) → validEntry guid r ≡ true → Keeps r
+unfolding validEntry headerRule
+keeps guid r h =
+    let a = and-eq-true-iff (headerRule guid (length r) r) _ .0 h in
+    let b = and-eq-true-iff (fitsRule r) _ .0 (a .1) in
+    let c = and-eq-true-iff (descriptorsRule r) _ .0 (b .1) in
+    let d = and-eq-true-iff (entryLengthRule r) _ .0 (c .1) in
+    let e = and-eq-true-iff (signatureRule r) _ .0 (a .0) in
+    let f = and-eq-true-iff (guidRule guid r) _ .0 (e .1) in
+    record {
+      signed = e .0;
+      tailed = and-eq-true-iff (tailRule (length r) r) (numberRule r) .0 (f .1) .0;
+      fits = b .0;
+      described = c .0;
+      exact = d .0;
+      filled = and-eq-true-iff (dataSectorsRule r) (checksumRule r) .0 (d .1) .0;
+    }

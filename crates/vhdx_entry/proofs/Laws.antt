@@ -2,7 +2,7 @@
 -- sector is that sector's. And laws of loops over descriptors and sectors.
 -- Assumes nothing.
 use mathlib.Core.Path.{_≡_, refl, sym, ap, _∙_}
-use mathlib.Core.Bool.{Bool, true, false, cond, _&&_}
+use mathlib.Core.Bool.{Bool, true, false, cond, _&&_, and-eq-true-iff, and-false}
 use mathlib.Core.List.{List, [], _∷_, _++_}
 use Prim.Native.Nat.{ℕ, zero, suc, _+_, _-_, _*_, _%_, _≤_, _<_}
 use native.Mathlib.Decide.{decLt}
@@ -54,13 +54,18 @@ unfolding every
 every-not f i zero b h = absurd (omega arith)
 every-not f i (suc m) b h = go (decLt i m) (λ c. every-not f i m c h)
   where
-    with-false : (x : Bool) → (x && false) ≡ false
-    with-false true = refl
-    with-false false = refl
-
     go : Dec (i < m) → (i < m → every m f ≡ false) → (every m f && f m) ≡ false
     go (yes c) r = ap (λ (x : Bool). x && f m) (r c)
-    go (no c) r = ap (λ (x : Bool). every m f && x) (ap f {x = m} {y = i} (omega arith) ∙ h) ∙ with-false (every m f)
+    go (no c) r = ap (λ (x : Bool). every m f && x) (ap f {x = m} {y = i} (omega arith) ∙ h) ∙ and-false (every m f)
+
+pub every-at : (f : ℕ → Bool) (m i : ℕ) → every m f ≡ true → i < m → f i ≡ true
+unfolding every
+every-at f zero i h b = absurd (omega arith)
+every-at f (suc m) i h b = go (decLt i m) (every-at f m i) (and-eq-true-iff (every m f) (f m) .0 h)
+  where
+    go : Dec (i < m) → (every m f ≡ true → i < m → f i ≡ true) → (every m f ≡ true) × (f m ≡ true) → f i ≡ true
+    go (yes c) rec p = rec (p .0) c
+    go (no c) rec p = ap f {x = i} {y = m} (omega arith) ∙ p .1
 
 pub data-more : (r : List ℕ) (i : ℕ) → dataBefore r (i + 1) ≡ dataBefore r i + cond (isData (descriptor r i)) 1 0
 unfolding dataBefore

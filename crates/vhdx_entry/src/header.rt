@@ -1,4 +1,4 @@
-// An entry's header, lent as the sector that it starts.
+// An entry's header, given as the sector that it starts.
 ghost use mathlib.Core.Path.{_≡_};
 ghost use Prim.Native.Nat.{_/_, _<_};
 ghost use lib.ListN.{length};

@@ -1,4 +1,4 @@
-// One header, lent as its 4,096 bytes.
+// One header, given as its 4,096 bytes.
 use crate::Header;
 ghost use mathlib.Core.Path.{_≡_};
 ghost use lib.ListN.{length};

@@ -1,7 +1,7 @@
 -- Answers stand for plans: a refusal, a sequence by what its survey says, and the log that a header names.
 -- Assumes nothing.
 use mathlib.Core.Path.{_≡_, sym, ap, subst, _∙_}
-use mathlib.Core.Bool.{true, false, _&&_}
+use mathlib.Core.Bool.{true, false, _&&_, and-eq-true-iff}
 use mathlib.Core.List.{List, []}
 use Prim.Native.Nat.{ℕ, _+_, _-_, _*_, _/_, _%_, _≤_, max}
 use native.Mathlib.Nat.{add-sub-cancel-left}
@@ -13,7 +13,7 @@ use borrow.Author.Tests.{eqb-true, eq-eqb, leb-true}
 use Rattle.field.specs.declared.Guid.{Guid}
 use Rattle.field.specs.Fields.{number}
 use Rattle.extent.specs.Extent.{MiB}
-use Rattle.extent.proofs.Laws.{iff, both}
+use Rattle.extent.proofs.Laws.{iff}
 use Rattle.vhdx_header.specs.declared.Header.{Header}
 use Rattle.vhdx_header.specs.declared.Answer.the-variants.{Refused as HeaderRefused, Current}
 use Rattle.vhdx_header.specs.Current.{currentHeader}
@@ -70,7 +70,7 @@ module _ (log : List ℕ) (s k : ℕ) (w : Walkable log s k) (e : Extent) (n cap
 
     bound : (leb m capacity && leb m lengthLimit) ≡ true → furthest (descriptorsOn log s 0 (k + 1)) ≤ lengthLimit
     bound h =
-        let l : m ≤ lengthLimit = leb-true m lengthLimit (both (leb m capacity) (leb m lengthLimit) h .1) in
+        let l : m ≤ lengthLimit = leb-true m lengthLimit (and-eq-true-iff (leb m capacity) (leb m lengthLimit) .0 h .1) in
         omega (arith, final-is, ap furthest (first-descriptors log s k w))
 
     pub applies : (leb m capacity && leb m lengthLimit) ≡ true →
@@ -93,7 +93,7 @@ zero-number g = iff (eqb (g .low) 0 && eqb (g .high) 0) (eqb (number g) 0) there
   where
     there : (eqb (g .low) 0 && eqb (g .high) 0) ≡ true → eqb (number g) 0 ≡ true
     there h =
-        let p = both (eqb (g .low) 0) (eqb (g .high) 0) h in
+        let p = and-eq-true-iff (eqb (g .low) 0) (eqb (g .high) 0) .0 h in
         let a : g .low ≡ 0 = eqb-true (g .low) 0 (p .0) in
         let b : g .high ≡ 0 = eqb-true (g .high) 0 (p .1) in
         eq-eqb (number g) 0 (omega arith)

@@ -2,7 +2,7 @@
 -- entries can be walked.
 -- Assumes nothing.
 use mathlib.Core.Path.{_≡_, refl, sym, ap, subst, _∙_}
-use mathlib.Core.Bool.{true, _&&_}
+use mathlib.Core.Bool.{true}
 use mathlib.Core.List.{List, _++_, append-nil}
 use Prim.Native.Nat.{ℕ, zero, suc, _+_, _-_, _*_, _/_, _%_, _≤_, _<_}
 use native.Mathlib.Numerals.{add-one}
@@ -10,10 +10,10 @@ use native.Mathlib.Omega.{arith}
 use lib.ListN.{length, length-append}
 use Rattle.field.specs.declared.Guid.{Guid}
 use Rattle.extent.specs.Extent.{MiB}
-use Rattle.extent.proofs.Laws.{both}
 use Rattle.vhdx_entry.specs.declared.ring.RingPos.{RingPos}
 use Rattle.vhdx_entry.specs.Ring.{sectorAt, sectorCount, ring, On}
-use Rattle.vhdx_entry.specs.Entry.{flushedFileOffset, lastFileOffset, descriptorCount, dataBefore, size, headerRule, fitsRule, descriptorsRule, entryLengthRule, dataSectorsRule, checksumRule, validEntry}
+use Rattle.vhdx_entry.specs.Entry.{flushedFileOffset, lastFileOffset, descriptorCount, dataBefore, size, validEntry}
+use Rattle.vhdx_entry.proofs.Clauses.{keeps}
 use Rattle.vhdx_sequence.specs.Linked.{Linked, total}
 use Rattle.vhdx_log.specs.Work.{Descriptor, LogEntry, head, allDescriptors}
 use Rattle.vhdx_log.specs.Plan.{descriptorsFrom, logEntry, entriesFrom}
@@ -52,13 +52,7 @@ head-says log s k p sector on is at = (
 -- ---- valid entries
 
 pub valid-readable : (guid : Guid) (r : List ℕ) → validEntry guid r ≡ true → Readable r
-unfolding validEntry
-valid-readable guid r h =
-    let a = both (headerRule guid (length r) r) (fitsRule r && (descriptorsRule r && (entryLengthRule r && (dataSectorsRule r && checksumRule r)))) h .1 in
-    let b = both (fitsRule r) (descriptorsRule r && (entryLengthRule r && (dataSectorsRule r && checksumRule r))) a in
-    let c = both (descriptorsRule r) (entryLengthRule r && (dataSectorsRule r && checksumRule r)) (b .1) in
-    let d = both (entryLengthRule r) (dataSectorsRule r && checksumRule r) (c .1) in
-    record { fits = b .0; exact = d .0; described = c .0 }
+valid-readable guid r h = let k = keeps guid r h in record { fits = k .fits; exact = k .exact; described = k .described }
 
 pub linked-readable : (log : List ℕ) (guid : Guid) (s k : ℕ) → Linked log guid s k → AllReadable log s (suc k)
 unfolding Linked AllReadable

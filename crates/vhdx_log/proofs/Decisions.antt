@@ -2,7 +2,7 @@
 -- count is exact.
 -- Assumes nothing.
 use mathlib.Core.Path.{_≡_, refl, sym, ap, _∙_}
-use mathlib.Core.Bool.{Bool, true, false, not, _&&_}
+use mathlib.Core.Bool.{Bool, true, false, _&&_, and-eq-true-iff}
 use mathlib.Core.List.{List, [], _∷_}
 use Prim.Native.Nat.{ℕ, _*_, _/_, _≤_, _<_, max}
 use native.Mathlib.Decide.{decLt}
@@ -10,7 +10,6 @@ use native.Mathlib.Omega.{arith}
 use lib.Dec.{leb}
 use lib.ListN.{length, length-append}
 use borrow.Author.Tests.{leb-true, le-leb, lt-leb, eq-eqb, ne-eqb}
-use Rattle.extent.proofs.Laws.{both}
 use Rattle.vhdx_log.specs.Work.{Descriptor, writes, zeros, Entries, head, allDescriptors, zeroSector, sectorsOf, sectors, end, furthest, finalLength, Extent, someLies, refused, apply, lengthLimit, work}
 use Rattle.vhdx_log.specs.Survey.{capped}
 use Rattle.vhdx_log.proofs.Runs.{length-sectors}
@@ -84,7 +83,7 @@ module _ (e : Extent) (es : Entries) (n capacity : ℕ) where
       module _ (within : (leb m capacity && leb m lengthLimit) ≡ true) where
         below : (m ≡ finalLength es n) × (furthest (allDescriptors es) ≤ lengthLimit)
         below =
-            let l : m ≤ lengthLimit = leb-true m lengthLimit (both (leb m capacity) (leb m lengthLimit) within .1) in
+            let l : m ≤ lengthLimit = leb-true m lengthLimit (and-eq-true-iff (leb m capacity) (leb m lengthLimit) .0 within .1) in
             let x = exact n (head es .last) (furthest (allDescriptors es)) (omega arith) in
             (final ∙ x .0, x .1)
 

@@ -4,7 +4,7 @@ use mathlib.Core.Path.{_≡_, refl}
 use mathlib.Core.List.{List, [], _∷_, map}
 use Prim.Native.Nat.{ℕ, _*_}
 use Rattle.extent.specs.Extent.{MiB}
-use Rattle.vhdx_log.specs.Work.{Descriptor, zeros, LogEntry, only, Extent, Plan, refused, apply, count, sectorsAt, work}
+use Rattle.vhdx_log.specs.Work.{Descriptor, zeros, only, Plan, refused, apply, count, sectorsAt, work}
 
 -- the answer in figures: the refusal's number or 0, the final length, the count
 pub record Figures : Type 0 where

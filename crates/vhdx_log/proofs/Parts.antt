@@ -1,7 +1,7 @@
 -- An entry that a walk reads: where its parts lie in the log, and how long it is.
 -- Assumes nothing.
 use mathlib.Core.Path.{_≡_, sym, ap, _∙_}
-use mathlib.Core.Bool.{Bool, true, false, cond, _&&_, _||_}
+use mathlib.Core.Bool.{true, false, cond, _&&_, _||_, and-eq-true-iff}
 use mathlib.Core.List.{List}
 use Prim.Native.Nat.{ℕ, zero, suc, _+_, _*_, _/_, _%_, _≤_, _<_}
 use native.Mathlib.Decide.{decLt}
@@ -11,11 +11,10 @@ use lib.ListN.{length, take, drop}
 use lib.Seq.{drop-drop}
 use borrow.Author.Tests.{leb-true, eqb-true}
 use Rattle.field.specs.Fields.{field}
-use Rattle.extent.proofs.Laws.{both}
 use Rattle.vhdx_entry.specs.declared.ring.RingPos.{RingPos}
 use Rattle.vhdx_entry.specs.Ring.{sectorSize, sectorCount, ring, sectorAt, On}
-use Rattle.vhdx_entry.specs.Entry.{descriptor, descriptorStart, descriptorCount, sequenceNumber, entryLength, isData, isZero, wholeSectors, zeroLength, fileOffset, dataBefore, dataCount, size, every, descriptorRule, descriptorsRule}
-use Rattle.vhdx_entry.proofs.Laws.{within-take, length-ring, sector-on, first-field, ring-part}
+use Rattle.vhdx_entry.specs.Entry.{descriptor, descriptorStart, descriptorCount, sequenceNumber, entryLength, isData, isZero, wholeSectors, zeroLength, fileOffset, dataBefore, dataCount, size, descriptorRule, descriptorsRule}
+use Rattle.vhdx_entry.proofs.Laws.{within-take, length-ring, sector-on, first-field, ring-part, every-at}
 use Rattle.vhdx_log.specs.Work.{writes}
 use Rattle.vhdx_log.specs.Plan.{sectorBytes}
 use Rattle.vhdx_log.specs.Walk.{Readable}
@@ -44,22 +43,13 @@ data-rank r i b h =
 
 -- ---- a readable entry
 
-every-at : (f : ℕ → Bool) (m i : ℕ) → every m f ≡ true → i < m → f i ≡ true
-unfolding every
-every-at f zero i h b = absurd (omega arith)
-every-at f (suc m) i h b = go (decLt i m) (every-at f m i) (both (every m f) (f m) h)
-  where
-    go : Dec (i < m) → (every m f ≡ true → i < m → f i ≡ true) → (every m f ≡ true) × (f m ≡ true) → f i ≡ true
-    go (yes c) rec p = rec (p .0) c
-    go (no c) rec p = ap f {x = i} {y = m} (omega arith) ∙ p .1
-
 -- a descriptor that is no data descriptor names whole sectors
 zero-whole : (number : ℕ) (d : List ℕ) → descriptorRule number d ≡ true → isData d ≡ false → zeroLength d % sectorSize ≡ 0
 unfolding descriptorRule
 zero-whole number d h no-data =
-    let p = both (isData d || (isZero d && wholeSectors (zeroLength d))) (wholeSectors (fileOffset d) && _) h .0 in
+    let p = and-eq-true-iff (isData d || (isZero d && wholeSectors (zeroLength d))) (wholeSectors (fileOffset d) && _) .0 h .0 in
     let q : (isZero d && wholeSectors (zeroLength d)) ≡ true = sym (rw no-data) ∙ p in
-    eqb-true (zeroLength d % sectorSize) 0 (both (isZero d) (wholeSectors (zeroLength d)) q .1)
+    eqb-true (zeroLength d % sectorSize) 0 (and-eq-true-iff (isZero d) (wholeSectors (zeroLength d)) .0 q .1)
 
 module _ (r : List ℕ) (e : Readable r) where
   pub size-fits : size r * 4096 ≤ length r

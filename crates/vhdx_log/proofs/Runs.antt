@@ -1,7 +1,7 @@
 -- A proper run is a descriptor whose sectors stand one behind the other: what they say together is what the whole range says.
 -- Assumes nothing.
 use mathlib.Core.Path.{_≡_, refl, sym, ap, _∙_}
-use mathlib.Core.Bool.{Bool, true, false, cond, _||_}
+use mathlib.Core.Bool.{Bool, true, false, cond, _||_, or-assoc}
 use mathlib.Core.List.{List, [], _∷_, _++_}
 use Prim.Native.Nat.{ℕ, zero, suc, _+_, _*_, _/_, _%_}
 use native.Mathlib.Omega.{arith}
@@ -67,8 +67,4 @@ lies-whole log (suc k) offset bytes =
 
 pub lies-append : (log : Extent) (a b : List Sector) → someLies log (a ++ b) ≡ (someLies log a || someLies log b)
 lies-append log [] b = refl
-lies-append log (s ∷ a) b = ap (λ (t : Bool). lies log (s .offset) 4096 || t) (lies-append log a b) ∙ grouped (lies log (s .offset) 4096) (someLies log a) (someLies log b)
-  where
-    grouped : (x y z : Bool) → (x || (y || z)) ≡ ((x || y) || z)
-    grouped true y z = refl
-    grouped false y z = refl
+lies-append log (s ∷ a) b = ap (λ (t : Bool). lies log (s .offset) 4096 || t) (lies-append log a b) ∙ sym (or-assoc (lies log (s .offset) 4096) (someLies log a) (someLies log b))

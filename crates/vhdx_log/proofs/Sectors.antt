@@ -1,13 +1,12 @@
 -- The walk over single sectors: past sectors of its run, past the whole run, and the sector that it is at.
 -- Assumes nothing.
 use mathlib.Core.Path.{_≡_, refl, sym, ap, ap₂, _∙_, subst}
-use mathlib.Core.Bool.{true, false, cond}
+use mathlib.Core.Bool.{cond}
 use mathlib.Core.List.{List, [], _∷_, _++_}
-use mathlib.Core.Option.{Option, none, some}
-use Prim.Native.Nat.{ℕ, zero, suc, _+_, _-_, _*_, _/_, _%_, _≤_, _<_, max}
+use mathlib.Core.Option.{none, some}
+use Prim.Native.Nat.{ℕ, zero, suc, _+_, _-_, _*_, _/_, _≤_, _<_, max}
 use native.Mathlib.Omega.{arith}
-use lib.Dec.{eqb}
-use lib.ListN.{length, take, drop, getElem?}
+use lib.ListN.{length, drop, getElem?}
 use lib.Seq.{drop-append-le, drop-append-add, drop-nil}
 use borrow.Author.Tests.{ne-eqb}
 use Rattle.vhdx_log.specs.declared.run.Source.{Source}
@@ -17,11 +16,10 @@ use Rattle.vhdx_log.specs.declared.cursor.Cursor.{Cursor}
 use Rattle.vhdx_log.specs.declared.cursor.Move.{Move}
 use Rattle.vhdx_log.specs.declared.cursor.Move.the-variants.{Done, Entry, Descriptor as Named}
 use Rattle.vhdx_log.specs.declared.walk.Walk.{Walk}
-use Rattle.vhdx_log.specs.declared.walk.Loaded.{Loaded}
 use Rattle.vhdx_log.specs.declared.walk.Loaded.the-variants.{Nothing, At}
-use Rattle.vhdx_log.specs.Work.{Descriptor, Sector, sectorsAt, sectorsOf, sectors, end, furthest, lengthLimit}
+use Rattle.vhdx_log.specs.Work.{Descriptor, Sector, sectorsAt, sectors, end, furthest, lengthLimit}
 use Rattle.vhdx_log.specs.Walk.{bytesOf, descriptorIn, descriptorsLeft, Placed, Proper, ProperBy, Onward}
-use Rattle.vhdx_log.specs.Steps.{sectorsIn, sectorsLeft, sectorOf, Held, Ready, Settled, walkFrom, Following}
+use Rattle.vhdx_log.specs.Steps.{sectorsIn, sectorsLeft, Held, Ready, Settled, walkFrom, Following}
 use Rattle.vhdx_log.proofs.Runs.{run-sectors, run-end, length-sectors}
 
 -- ---- sectors one behind the other
@@ -42,10 +40,6 @@ first-sector : (k offset : ℕ) (bytes : List ℕ) (rest : List Sector) → 0 < 
 unfolding sectorsAt
 first-sector zero offset bytes rest h = absurd (omega arith)
 first-sector (suc k) offset bytes rest h = refl
-
-no-sectors : (log : List ℕ) (run : Run) → run .length < 4096 → sectorsIn log run ≡ []
-unfolding sectorsAt
-no-sectors log run h = ap (λ (k : ℕ). sectorsAt k (run .offset) (bytesOf log (run .source))) {x = run .length / 4096} {y = 0} (omega arith)
 
 pub nth-drop : (l : List Sector) (k : ℕ) → getElem? (drop k l) 0 ≡ getElem? l k
 nth-drop [] zero = refl

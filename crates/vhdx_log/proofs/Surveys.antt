@@ -2,7 +2,7 @@
 -- number do so at every step as they do at the end.
 -- Assumes nothing.
 use mathlib.Core.Path.{_≡_, refl, sym, ap, _∙_}
-use mathlib.Core.Bool.{Bool, true, false, cond, _||_}
+use mathlib.Core.Bool.{Bool, true, false, cond, _||_, or-false, or-assoc}
 use mathlib.Core.List.{List, [], _∷_}
 use Prim.Native.Nat.{ℕ, _+_, _*_, _/_, _≤_, max}
 use native.Mathlib.Omega.{arith}
@@ -63,14 +63,6 @@ survey-onward log e s t run ds rest proper taken same =
 
 -- ---- one after the other
 
-or-false : (a : Bool) → a ≡ (a || false)
-or-false true = refl
-or-false false = refl
-
-or-grouped : (a b c : Bool) → ((a || b) || c) ≡ (a || (b || c))
-or-grouped true b c = refl
-or-grouped false b c = refl
-
 max-grouped : (a b c : ℕ) → max (max a b) c ≡ max a (max b c)
 max-grouped a b c = omega arith
 
@@ -84,11 +76,11 @@ module _ (log : Extent) where
   together : (s : Survey) (ds : List Descriptor) → s .end ≤ 18446744073709551615 → s .count ≤ 18446744073709551615 →
       surveyFrom log s ds ≡ record { lies = s .lies || someLies log (sectors ds); end = max (s .end) (capped (furthest ds)); count = capped (s .count + length (sectors ds)) }
   unfolding surveyFrom
-  together s [] p q = survey-path (or-false (s .lies)) (omega arith) (omega arith)
+  together s [] p q = survey-path (sym (or-false (s .lies))) (omega arith) (omega arith)
   together s (d ∷ ds) p q =
       together (with log s d) ds (omega arith) (omega arith)
       ∙ survey-path
-      (or-grouped (s .lies) (someLies log (sectorsOf d)) (someLies log (sectors ds))
+      (or-assoc (s .lies) (someLies log (sectorsOf d)) (someLies log (sectors ds))
       ∙ ap (λ (t : Bool). s .lies || t) (sym (lies-append log (sectorsOf d) (sectors ds))))
       (max-grouped (s .end) (capped (end d)) (capped (furthest ds)) ∙ ap (max (s .end)) (capped-max (end d) (furthest ds)))
       (capped-sum (s .count) (length (sectorsOf d)) (length (sectors ds))

@@ -1,10 +1,10 @@
 -- The walk over a plan's sectors, one after the other: which sectors it has before it, and the sector that it answers.
 -- Assumes nothing.
-use mathlib.Core.List.{List, [], _∷_, _++_}
+use mathlib.Core.List.{List, [], _++_}
 use mathlib.Core.Option.{Option, none, some}
 use mathlib.Core.Path.{_≡_}
 use Prim.Native.Nat.{ℕ, _+_, _/_, _≤_, _<_}
-use lib.ListN.{length, take, drop, getElem?}
+use lib.ListN.{length}
 use Rattle.vhdx_entry.specs.Ring.{sectorSize}
 use Rattle.vhdx_log.specs.declared.run.Source.{Source}
 use Rattle.vhdx_log.specs.declared.run.Source.the-variants.{Zeros, Data}

@@ -5,7 +5,7 @@ use crate::cursor::Move;
 use crate::run::Run;
 use crate::run::Source;
 ghost use mathlib.Core.Path.{_≡_};
-ghost use Prim.Native.Nat.{ℕ, _+_, _*_, _/_, _≤_, _<_};
+ghost use Prim.Native.Nat.{_+_, _*_, _/_, _≤_, _<_};
 ghost use lib.ListN.{drop, getElem?};
 ghost use Rattle.vhdx_log.specs.Work.{furthest, lengthLimit};
 ghost use Rattle.vhdx_log.specs.Walk.{descriptorsLeft, Placed};

@@ -2,10 +2,10 @@
 -- descriptor or is a data sector, so that it is not marked "loge".
 -- Assumes nothing.
 use mathlib.Core.Path.{_≡_, refl, sym, ap, _∙_, subst}
-use mathlib.Core.Bool.{Bool, true, false, _&&_, _||_}
+use mathlib.Core.Bool.{Bool, true, false, _&&_, _||_, and-eq-true-iff}
 use mathlib.Core.List.{List}
 use mathlib.Core.Option.{some}
-use Prim.Native.Nat.{ℕ, zero, suc, _+_, _-_, _*_, _%_, _≤_, _<_}
+use Prim.Native.Nat.{ℕ, _+_, _-_, _*_, _%_, _≤_, _<_}
 use native.Mathlib.Decide.{decLt}
 use native.Mathlib.Nat.{div-add-mod}
 use native.Mathlib.Omega.{arith}
@@ -16,22 +16,11 @@ use Rattle.field.specs.declared.Guid.{Guid}
 use Rattle.field.specs.Fields.{field}
 use Rattle.vhdx_entry.specs.declared.Entry.{Entry}
 use Rattle.vhdx_entry.specs.Ring.{sectorCount, ring, sectorAt}
-use Rattle.vhdx_entry.specs.Entry.{loge, desc, zeroes, datum, signature, tail, sequenceNumber, descriptorCount, descriptorStart, descriptor, isData, isZero, zeroLength, wholeSectors, descriptorSectors, dataCount, dataSector, size, every, signatureRule, guidRule, tailRule, numberRule, fitsRule, descriptorRule, descriptorsRule, entryLengthRule, dataSectorRule, dataSectorsRule, checksumRule, headerRule, validEntry, contents, entryAt}
-use Rattle.vhdx_entry.proofs.Laws.{field-in, length-ring, sector-on, first-field}
+use Rattle.vhdx_entry.specs.Entry.{loge, desc, zeroes, datum, signature, tail, sequenceNumber, descriptorCount, descriptorStart, descriptor, isData, isZero, zeroLength, wholeSectors, descriptorSectors, dataCount, dataSector, size, descriptorRule, descriptorsRule, dataSectorRule, dataSectorsRule, validEntry, contents, entryAt}
+use Rattle.vhdx_entry.proofs.Laws.{field-in, length-ring, sector-on, first-field, every-at}
+use Rattle.vhdx_entry.proofs.Clauses.{onlyIf-some, keeps}
 use Rattle.vhdx_sequence.specs.Scan.{markAt, numberAt}
-use Rattle.vhdx_sequence.proofs.Best.{both, onlyIf-some}
 use Rattle.vhdx_sequence.proofs.Chain.{Apart}
-
-every-at : (m : ℕ) (f : ℕ → Bool) → every m f ≡ true → (i : ℕ) → i < m → f i ≡ true
-unfolding every
-every-at zero f h i b = absurd (omega arith)
-every-at (suc m) f h i b =
-    let k = both (every m f) (f m) h in
-    go (decLt i m) (λ c. every-at m f (k .0) i c) (k .1)
-  where
-    go : Dec (i < m) → (i < m → f i ≡ true) → f m ≡ true → f i ≡ true
-    go (yes c) r l = r c
-    go (no c) r l = let e : i ≡ m = omega arith in ap f e ∙ l
 
 -- what a valid entry is asked, of the ring read from its start
 record Asked (r : List ℕ) : Type 0 where
@@ -42,45 +31,42 @@ record Asked (r : List ℕ) : Type 0 where
   each-sector : dataSectorsRule r ≡ true
 
 asked : (guid : Guid) (r : List ℕ) → validEntry guid r ≡ true → Asked r
-unfolding validEntry headerRule
 asked guid r h =
-    let a = both (headerRule guid (length r) r) _ h in
-    let b = both (fitsRule r) _ (a .1) in
-    let c = both (descriptorsRule r) _ (b .1) in
-    let d = both (entryLengthRule r) _ (c .1) in
-    let e = both (dataSectorsRule r) (checksumRule r) (d .1) in
-    let f = both (signatureRule r) _ (a .0) in
-    let g = both (guidRule guid r) _ (f .1) in
-    let i = both (tailRule (length r) r) (numberRule r) (g .1) in
-    let j = both (wholeSectors (tail r)) (ltb (tail r) (length r)) (i .0) in
-    record { marked = eqb-true _ _ (f .0); in-log = ltb-true _ _ (j .1); fits = leb-true _ _ (b .0); each-descriptor = c .0; each-sector = e .0 }
+    let k = keeps guid r h in
+    record {
+      marked = eqb-true _ _ (k .signed);
+      in-log = ltb-true _ _ (and-eq-true-iff (wholeSectors (tail r)) (ltb (tail r) (length r)) .0 (k .tailed) .1);
+      fits = leb-true _ _ (k .fits);
+      each-descriptor = k .described;
+      each-sector = k .filled;
+    }
 
 -- a descriptor, and a data sector, do not begin with "loge"
 descriptor-says : (number : ℕ) (d : List ℕ) → descriptorRule number d ≡ true → signature d ≡ loge → ⊥
 unfolding descriptorRule
-descriptor-says number d h e = go (isData d) refl (both (isData d || (isZero d && wholeSectors (zeroLength d))) _ h .0)
+descriptor-says number d h e = go (isData d) refl (and-eq-true-iff (isData d || (isZero d && wholeSectors (zeroLength d))) _ .0 h .0)
   where
     go : (t : Bool) → isData d ≡ t → (t || (isZero d && wholeSectors (zeroLength d))) ≡ true → ⊥
     go true a b =
         let c : signature d ≡ desc = eqb-true _ _ a in
         omega arith
     go false a b =
-        let c : signature d ≡ zeroes = eqb-true _ _ (both (isZero d) _ b .0) in
+        let c : signature d ≡ zeroes = eqb-true _ _ (and-eq-true-iff (isZero d) _ .0 b .0) in
         omega arith
 
 sector-says : (number : ℕ) (d : List ℕ) → dataSectorRule number d ≡ true → signature d ≡ loge → ⊥
 unfolding dataSectorRule
 sector-says number d h e =
-    let c : signature d ≡ datum = eqb-true _ _ (both (eqb (signature d) datum) _ h .0) in
+    let c : signature d ≡ datum = eqb-true _ _ (and-eq-true-iff (eqb (signature d) datum) _ .0 h .0) in
     omega arith
 
 descriptor-at : (r : List ℕ) (i : ℕ) → descriptorsRule r ≡ true → i < descriptorCount r → signature (descriptor r i) ≡ loge → ⊥
 unfolding descriptorsRule
-descriptor-at r i h b = descriptor-says _ _ (every-at (descriptorCount r) (λ k. descriptorRule (sequenceNumber r) (descriptor r k)) h i b)
+descriptor-at r i h b = descriptor-says _ _ (every-at (λ k. descriptorRule (sequenceNumber r) (descriptor r k)) (descriptorCount r) i h b)
 
 sector-at : (r : List ℕ) (k : ℕ) → dataSectorsRule r ≡ true → k < dataCount r → signature (dataSector r k) ≡ loge → ⊥
 unfolding dataSectorsRule
-sector-at r k h b = sector-says _ _ (every-at (dataCount r) (λ i. dataSectorRule (sequenceNumber r) (dataSector r i)) h k b)
+sector-at r k h b = sector-says _ _ (every-at (λ i. dataSectorRule (sequenceNumber r) (dataSector r i)) (dataCount r) k h b)
 
 -- sector j of the entry, in its header and descriptors, begins where descriptor i begins
 descriptor-begins : (r : List ℕ) (i j : ℕ) → descriptorStart i ≡ j * 4096 → signature (descriptor r i) ≡ signature (sectorAt r j)
@@ -104,7 +90,9 @@ unmarked r j a p q e = go (decLt j (descriptorSectors (descriptorCount r)))
 
 entry-is : (log : List ℕ) (guid : Guid) (s : ℕ) (e : Entry) → entryAt log guid s ≡ some e → (validEntry guid (ring log s) ≡ true) × (contents (ring log s) ≡ e)
 unfolding entryAt
-entry-is log guid s e h = onlyIf-some (validEntry guid (ring log s)) (contents (ring log s)) e h
+entry-is log guid s e h =
+    let k = onlyIf-some (validEntry guid (ring log s)) (contents (ring log s)) (sym h) in
+    (k .0, sym (k .1))
 
 pub whole-sectors : (log : List ℕ) → length log % 4096 ≡ 0 → length log ≡ sectorCount log * 4096
 whole-sectors log h = omega (arith, div-add-mod (length log) 4096)

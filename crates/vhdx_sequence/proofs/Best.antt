@@ -2,27 +2,15 @@
 -- Assumes nothing.
 use Prim.Native.Nat.{ℕ, zero, suc, _≤_, _<_}
 use mathlib.Core.Path.{_≡_, refl, subst}
-use mathlib.Core.Bool.{Bool, true, false, cond, _&&_, _||_}
+use mathlib.Core.Bool.{Bool, true, false, cond, _&&_, _||_, and-eq-true-iff}
 use mathlib.Core.Option.{Option, none, some}
 use mathlib.Core.Logic.{_⊎_, inl, inr}
 use native.Mathlib.Omega.{arith}
 use native.Mathlib.Decide.{decLt}
 use lib.Dec.{ltb, eqb}
 use borrow.Author.Tests.{ltb-true, ltb-false, eqb-true, eqb-false}
-use Rattle.vhdx_entry.specs.Entry.{onlyIf}
 use Rattle.vhdx_sequence.specs.Sequence.{beats, better, bestOf}
 use Rattle.vhdx_sequence.specs.declared.Sequence.{Sequence}
-
-pub both : (a b : Bool) → (a && b) ≡ true → (a ≡ true) × (b ≡ true)
-both true b h = (refl, h)
-both false b h = let z : _≡_ {A = ℕ} 0 1 = cc in absurd (omega arith)
-
-pub join : (a b : Bool) → a ≡ true → b ≡ true → (a && b) ≡ true
-join a b p q = rw (p, q)
-
-pub onlyIf-some : {A : Type 0} (t : Bool) (a b : A) → onlyIf t a ≡ some b → (t ≡ true) × (a ≡ b)
-onlyIf-some true a b h = (refl, cc)
-onlyIf-some false a b h = let z : _≡_ {A = ℕ} 0 1 = cc in absurd (omega arith)
 
 -- p is at least as good as q
 abbrev pub AsGood : Sequence → Sequence → Type 0
@@ -47,7 +35,7 @@ beats-true q p h = go (ltb (p .number) (q .number)) refl
     go : (t : Bool) → ltb (p .number) (q .number) ≡ t → AsGood q p
     go true e = inl (ltb-true _ _ e)
     go false e =
-        let k = both (eqb (p .number) (q .number)) (ltb (q .start) (p .start)) (rw e at h) in
+        let k = and-eq-true-iff (eqb (p .number) (q .number)) (ltb (q .start) (p .start)) .0 (rw e at h) in
         let a : p .number ≡ q .number = eqb-true _ _ (k .0) in
         let b : q .start < p .start = ltb-true _ _ (k .1) in
         inr (omega arith)

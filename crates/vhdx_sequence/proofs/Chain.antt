@@ -1,5 +1,5 @@
 -- Chains of entries in a ring of n sectors whose entries lie apart: what a chain is made of, that it takes at most n sectors,
--- and that it can be cut at each marked sector.
+-- and that it can be split at each marked sector.
 -- Assumes nothing.
 use Prim.Native.Nat.{ℕ, zero, suc, _+_, _-_, _%_, _≤_, _<_}
 use mathlib.Core.Path.{_≡_, refl, sym, ap, _∙_}
@@ -102,7 +102,7 @@ module _ (n : ℕ) (entry : ℕ → Option Entry) where
   chain-head s (suc k) l h = let d = chain-ended s k l h in chain-head s k (d .prior) (d .there)
 
 -- where a part of a chain begins: the rest of it is a chain to the same entry
-pub record Cut (n : ℕ) (entry : ℕ → Option Entry) (r d : ℕ) (l : Link) : Type 0 where
+pub record Suffix (n : ℕ) (entry : ℕ → Option Entry) (r d : ℕ) (l : Link) : Type 0 where
   pub more : ℕ
   pub to : Link
   pub there : chain n entry ((r + d) % n) more ≡ some to
@@ -143,8 +143,8 @@ module _ (n : ℕ) (entry : ℕ → Option Entry) (mark : ℕ → Bool) (number 
           let w : f .number ≡ l .entry .number = ap (λ (x : Entry). x .number) y in
           absurd (omega (arith, chain-number n entry s (suc k) l f g h))
 
-  cut-last : (r m d : ℕ) (l : Link) → r < n → chain n entry r m ≡ some l → d ≡ l .before → Cut n entry r d l
-  cut-last r m d l b h p =
+  suffix-last : (r m d : ℕ) (l : Link) → r < n → chain n entry r m ≡ some l → d ≡ l .before → Suffix n entry r d l
+  suffix-last r m d l b h p =
       record {
         more = 0;
         to = record { before = 0; entry = l .entry };
@@ -154,14 +154,14 @@ module _ (n : ℕ) (entry : ℕ → Option Entry) (mark : ℕ → Bool) (number 
       }
 
   -- a marked sector that a chain covers, up to its last entry's first, is where one of its entries starts
-  pub cut : (r m d : ℕ) (l : Link) → r < n → chain n entry r m ≡ some l → d ≤ l .before → mark ((r + d) % n) ≡ true → Cut n entry r d l
-  cut r zero d l b h p k = cut-last r zero d l b h (omega (arith, chain-first n entry r l h .1))
-  cut r (suc m) d l b h p k =
+  pub suffix-from : (r m d : ℕ) (l : Link) → r < n → chain n entry r m ≡ some l → d ≤ l .before → mark ((r + d) % n) ≡ true → Suffix n entry r d l
+  suffix-from r zero d l b h p k = suffix-last r zero d l b h (omega (arith, chain-first n entry r l h .1))
+  suffix-from r (suc m) d l b h p k =
       let e = chain-ended n entry r m l h in
-      go e (decLt d (l .before)) (decLe d (e .prior .before)) (λ q. cut r m d (e .prior) b (e .there) q k)
+      go e (decLt d (l .before)) (decLe d (e .prior .before)) (λ q. suffix-from r m d (e .prior) b (e .there) q k)
     where
-      go : (e : Ended n entry r m l) → Dec (d < l .before) → Dec (d ≤ e .prior .before) → (d ≤ e .prior .before → Cut n entry r d (e .prior)) → Cut n entry r d l
-      go e (no x) y i = cut-last r (suc m) d l b h (omega arith)
+      go : (e : Ended n entry r m l) → Dec (d < l .before) → Dec (d ≤ e .prior .before) → (d ≤ e .prior .before → Suffix n entry r d (e .prior)) → Suffix n entry r d l
+      go e (no x) y i = suffix-last r (suc m) d l b h (omega arith)
       go e (yes x) (no y) i =
           let v = apart .inside ((r + e .prior .before) % n) (e .prior .entry) (mod-lt (r + e .prior .before) {m = n} (omega arith)) (chain-at n entry r m (e .prior) b (e .there)) (d - e .prior .before) (omega arith) (omega (arith, e .from)) in
           let w = ap mark (mod-on n (r + e .prior .before) (d - e .prior .before) (r + d) (omega arith)) in

@@ -1,8 +1,8 @@
 -- What the active sequence is, in a ring whose entries lie apart: the only log sequence that is at least as good as each.
 -- Assumes nothing.
-use Prim.Native.Nat.{ℕ, zero, suc, _+_, _-_, _%_, _<_}
+use Prim.Native.Nat.{ℕ, zero, suc, _+_, _%_, _<_}
 use mathlib.Core.Path.{_≡_, refl, sym, ap, _∙_, subst}
-use mathlib.Core.Bool.{Bool, true, false, _&&_}
+use mathlib.Core.Bool.{Bool, true, false, _&&_, and-eq-true-iff}
 use mathlib.Core.Option.{Option, none, some}
 use mathlib.Core.Logic.{inl, inr}
 use native.Mathlib.Nat.{mod-lt}
@@ -13,7 +13,7 @@ use Rattle.vhdx_entry.specs.declared.Entry.{Entry}
 use Rattle.vhdx_entry.specs.Entry.{onlyIf}
 use Rattle.vhdx_sequence.specs.Sequence.{Link, upto, bestOf, _>>=_, chain, sequence, activeIn}
 use Rattle.vhdx_sequence.specs.declared.Sequence.{Sequence}
-use Rattle.vhdx_sequence.proofs.Best.{both, join, All, Covers, AsGood, asGood-refl, all-best, best-covers}
+use Rattle.vhdx_sequence.proofs.Best.{All, Covers, AsGood, asGood-refl, all-best, best-covers}
 use Rattle.vhdx_sequence.proofs.Chain.{Apart, chain-first, chain-ended, chain-at, chain-number, chain-head, chain-fits}
 
 -- q is a log sequence
@@ -39,7 +39,7 @@ module _ (n : ℕ) (entry : ℕ → Option Entry) (mark : ℕ → Bool) (number 
       go false a g = let z : _≡_ {A = ℕ} 0 1 = cc in absurd (omega arith)
       go true a g =
           subst (Is n entry) {x = record { start = s; more = k; number = l .entry .number }} (cc)
-          (record { starts = b; link = l; there = c; tail = eqb-true _ _ (both (leb (upto l) n) (eqb (l .entry .tail) s) a .1); number = refl })
+          (record { starts = b; link = l; there = c; tail = eqb-true _ _ (and-eq-true-iff (leb (upto l) n) (eqb (l .entry .tail) s) .0 a .1); number = refl })
 
   sequence-is : (s k : ℕ) → s < n → All (Is n entry) (sequence n entry s k)
   unfolding sequence
@@ -50,9 +50,7 @@ module _ (n : ℕ) (entry : ℕ → Option Entry) (mark : ℕ → Bool) (number 
   is-sequence q i =
       rw (i .there)
       (only (leb (upto (i .link)) n && eqb (i .link .entry .tail) (q .start)) _ q
-      (join (leb (upto (i .link)) n) _
-      (le-leb _ _ (chain-fits n entry mark number apart (q .start) (q .more) (i .link) (i .starts) (i .there)))
-      (eq-eqb _ _ (i .tail)))
+      (and-eq-true-iff (leb (upto (i .link)) n) _ .1 ((le-leb _ _ (chain-fits n entry mark number apart (q .start) (q .more) (i .link) (i .starts) (i .there))), (eq-eqb _ _ (i .tail))))
       (sequence-path refl refl (sym (i .number))))
 
   -- an entry has at least one sector, so a chain has at most as many entries as it takes sectors

@@ -3,7 +3,7 @@
 -- Assumes nothing.
 use Prim.Native.Nat.{ℕ, zero, suc, _+_, _-_, _%_, _≤_, _<_}
 use mathlib.Core.Path.{_≡_, refl, sym, ap, _∙_, subst}
-use mathlib.Core.Bool.{Bool, true, false, cond, _&&_}
+use mathlib.Core.Bool.{Bool, true, false, cond, _&&_, and-eq-true-iff}
 use mathlib.Core.Option.{Option, none, some}
 use mathlib.Core.Logic.{_⊎_, inl, inr, ⊎-elim}
 use native.Mathlib.Nat.{mod-lt, mod-eq-of-lt, add-mod-mod}
@@ -17,9 +17,9 @@ use Rattle.vhdx_entry.proofs.Laws.{mod-round}
 use Rattle.vhdx_sequence.specs.Sequence.{Link, upto, better, chain, activeIn}
 use Rattle.vhdx_sequence.specs.declared.Sequence.{Sequence}
 use Rattle.vhdx_sequence.specs.Scan.{State, fresh, runFrom, away, headedBy, takenBy}
-use Rattle.vhdx_sequence.proofs.Best.{both, join, All, Covers, asGood-refl, better-left, better-right, all-better}
+use Rattle.vhdx_sequence.proofs.Best.{All, Covers, asGood-refl, better-left, better-right, all-better}
 use Rattle.vhdx_sequence.proofs.Greatest.{Is, only, sequence-path, is-active}
-use Rattle.vhdx_sequence.proofs.Chain.{Apart, mod-on, Ended, chain-first, chain-one, chain-more, chain-ended, chain-at, chain-number, chain-head, Cut, cut, not-inside}
+use Rattle.vhdx_sequence.proofs.Chain.{Apart, mod-on, Ended, chain-first, chain-one, chain-more, chain-ended, chain-at, chain-number, chain-head, Suffix, suffix-from, not-inside}
 
 -- the run of the state: the chain from its start on that ends where the state says
 pub record Ran (n : ℕ) (entry : ℕ → Option Entry) (st : State) : Type 0 where
@@ -110,7 +110,7 @@ module _ (n : ℕ) (entry : ℕ → Option Entry) (mark : ℕ → Bool) (number 
       where
         go : (t : Bool) → (eqb u (st .next) && eqb (e .number) (st .number + 1)) ≡ t → Reach n entry u (cond t (st .start) u) e
         go true h =
-            let k = both (eqb u (st .next)) (eqb (e .number) (st .number + 1)) h in
+            let k = and-eq-true-iff (eqb u (st .next)) (eqb (e .number) (st .number + 1)) .0 h in
             reach-on (eqb-true u (st .next) (k .0)) (eqb-true (e .number) (st .number + 1) (k .1))
         go false h = reach-new fresh-start
           where
@@ -119,7 +119,7 @@ module _ (n : ℕ) (entry : ℕ → Option Entry) (mark : ℕ → Bool) (number 
               where
                 no-way : (st .next ≡ u) × (e .number ≡ st .number + 1) × (st .start ≤ s) → ⊥
                 no-way x =
-                    let y = join (eqb u (st .next)) (eqb (e .number) (st .number + 1)) (eq-eqb _ _ (sym (x .0))) (eq-eqb _ _ (x .1)) in
+                    let y = and-eq-true-iff (eqb u (st .next)) (eqb (e .number) (st .number + 1)) .1 ((eq-eqb _ _ (sym (x .0))), (eq-eqb _ _ (x .1))) in
                     let z : _≡_ {A = ℕ} 0 1 = cc in
                     omega arith
 
@@ -140,14 +140,14 @@ module _ (n : ℕ) (entry : ℕ → Option Entry) (mark : ℕ → Bool) (number 
         go : (t : Bool) → (mark (e .tail) && leb (away n (r % n) (e .tail)) (u - r)) ≡ t → onlyIf {A = Sequence} t (record { start = e .tail; more = e .number - number (e .tail); number = e .number }) ≡ some q → Is n entry q
         go false a b = let z : _≡_ {A = ℕ} 0 1 = cc in absurd (omega arith)
         go true a b =
-            let k = both (mark (e .tail)) (leb (away n (r % n) (e .tail)) (u - r)) a in
+            let k = and-eq-true-iff (mark (e .tail)) (leb (away n (r % n) (e .tail)) (u - r)) .0 a in
             let d : away n (r % n) (e .tail) ≤ u - r = leb-true _ _ (k .1) in
             let at = run .at in
-            let c = cut n entry mark number apart (r % n) (run .more) (away n (r % n) (e .tail)) (run .link) (mod-lt r {m = n} pos) (run .there) (omega arith) (ap mark back ∙ k .0) in
+            let c = suffix-from n entry mark number apart (r % n) (run .more) (away n (r % n) (e .tail)) (run .link) (mod-lt r {m = n} pos) (run .there) (omega arith) (ap mark back ∙ k .0) in
             let there : chain n entry (e .tail) (c .more) ≡ some (c .to) = ap (λ (s : ℕ). chain n entry s (c .more)) (sym back) ∙ c .there in
             made c there (chain-head n entry (e .tail) (c .more) (c .to) there)
           where
-            made : (c : Cut n entry (r % n) (away n (r % n) (e .tail)) (run .link)) → chain n entry (e .tail) (c .more) ≡ some (c .to) → (f : Entry) × (entry (e .tail) ≡ some f) → Is n entry q
+            made : (c : Suffix n entry (r % n) (away n (r % n) (e .tail)) (run .link)) → chain n entry (e .tail) (c .more) ≡ some (c .to) → (f : Entry) × (entry (e .tail) ≡ some f) → Is n entry q
             made c there (f, g) =
                 let i : c .to .entry ≡ e = c .last ∙ run .is in
                 let j : c .to .entry .number ≡ e .number = ap (λ (x : Entry). x .number) i in
@@ -192,7 +192,7 @@ module _ (n : ℕ) (entry : ℕ → Option Entry) (mark : ℕ → Bool) (number 
             let b : number (e .tail) ≡ f .number = ap number tail-is ∙ apart .numbered (q .start) f (i .starts) g in
             let c : i .link .entry .number ≡ e .number = ap (λ (x : Entry). x .number) entry-is in
             let d = chain-number n entry (q .start) (q .more) (i .link) f g (i .there) in
-            only (mark (e .tail) && leb (away n (r % n) (e .tail)) (u - r)) _ q (join (mark (e .tail)) _ a (le-leb _ _ near))
+            only (mark (e .tail) && leb (away n (r % n) (e .tail)) (u - r)) _ q (and-eq-true-iff (mark (e .tail)) _ .1 (a, (le-leb _ _ near)))
             (sequence-path tail-is (omega arith) (sym c ∙ sym (i .number)))
 
     -- the entry at u is taken up

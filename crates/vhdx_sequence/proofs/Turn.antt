@@ -1,7 +1,7 @@
 -- What a turn of the scan's loop does: the loop's invariant `Scanned`, its turns and its end.
 -- Assumes nothing.
 use mathlib.Core.Path.{_≡_, refl, sym, ap, _∙_, subst}
-use mathlib.Core.Bool.{Bool, true, false, _&&_, _||_}
+use mathlib.Core.Bool.{Bool, true, false, _&&_, _||_, and-eq-true-iff}
 use mathlib.Core.List.{List}
 use mathlib.Core.Logic.{_⊎_, inl, inr, ⊎-elim}
 use mathlib.Core.Option.{some}
@@ -22,7 +22,6 @@ use Rattle.vhdx_sequence.specs.Scan.{Placed, moved, State, stateOf, fres
 use Rattle.vhdx_sequence.specs.declared.lap.Place.{Place}
 use Rattle.vhdx_sequence.specs.declared.scan.Trace.{Trace}
 use Rattle.vhdx_sequence.proofs.Apart.{apart, whole-sectors}
-use Rattle.vhdx_sequence.proofs.Best.{join}
 use Rattle.vhdx_sequence.proofs.Chain.{Apart, chain-fits}
 use Rattle.vhdx_sequence.proofs.Invariant.{Inv, Ran, Reach, reach, inv-fresh, inv-none, inv-some, inv-skip, done}
 
@@ -53,7 +52,7 @@ test-false n u st h = go (ltb u n) refl h
       where
         no-run : (u ≤ st .next) × (st .start < n) → ⊥
         no-run q =
-            let j = join (leb u (st .next)) (ltb (st .start) n) (le-leb _ _ (q .0)) (lt-ltb _ _ (q .1)) in
+            let j = and-eq-true-iff (leb u (st .next)) (ltb (st .start) n) .1 ((le-leb _ _ (q .0)), (lt-ltb _ _ (q .1))) in
             let z : _≡_ {A = ℕ} 0 1 = cc in
             omega arith
 
@@ -151,7 +150,7 @@ module _ {log : List ℕ} {guid : Guid} where
             tail = sized-here .2;
             few = omega (arith, now .few);
             run = omega (arith, reached .at);
-            room = omega (arith, sized-here, now .few, now .here .1);
+            countable = omega (arith, sized-here, now .few, now .here .1);
           }
 
       -- the entry was taken up

@@ -84,4 +84,4 @@ pub record Takes (log : List ℕ) (place : Place) (t : Trace) (e : Entry) : Type
   pub tail : e .tail < place .pos .len
   pub few : place .pos .len < 2 ^ 32
   pub run : runFrom (place .count) (stateOf t) (e .number) ≤ place .count
-  pub room : place .count + e .size < 2 ^ 64
+  pub countable : place .count + e .size < 2 ^ 64

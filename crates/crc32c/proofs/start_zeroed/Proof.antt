@@ -1,6 +1,6 @@
 -- `crc32c::start_zeroed` meets its contract: the bytes before, the zeros and the bytes after, one after the other.
 -- Assumes nothing.
-use mathlib.Core.Path.{sym, ap, _∙_}
+use mathlib.Core.Path.{sym, ap}
 use Prim.Native.Nat.{ℕ, _+_}
 use native.Mathlib.Omega.{arith}
 use lib.Seq.{length-take-le}

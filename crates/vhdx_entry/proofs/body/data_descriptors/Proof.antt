@@ -1,6 +1,6 @@
 -- `vhdx_entry::body::data_descriptors` meets its contract: the first i keep their rule, and are counted.
 -- Assumes nothing.
-use mathlib.Core.Path.{_≡_, refl, sym, ap, _∙_}
+use mathlib.Core.Path.{_≡_, sym, ap, _∙_}
 use mathlib.Core.Bool.{Bool, true, false, cond}
 use mathlib.Core.List.{List}
 use mathlib.Core.Option.{Option, some}
@@ -10,7 +10,7 @@ use lib.ListN.{length}
 use borrow.Author.Tests.{not-true, not-false}
 use Rattle.vhdx_entry.specs.Ring.{ring, On}
 use Rattle.vhdx_entry.specs.Entry.{descriptor, descriptorStart, descriptorRule, isData, dataBefore, every, onlyIf}
-use Rattle.vhdx_entry.proofs.Laws.{every-more, every-end, every-not, data-more}
+use Rattle.vhdx_entry.proofs.Laws.{every-more, every-not, data-more}
 use borrow.Author.Needs.{needs}
 use Rattle.vhdx_entry.proofs.body.data_descriptors.Statement.{statement}
 use Rattle.vhdx_entry.proofs.body.data_descriptors.Tie as tie

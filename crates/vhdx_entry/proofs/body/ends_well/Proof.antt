@@ -1,10 +1,8 @@
 -- `vhdx_entry::body::ends_well` meets its contract.
 -- Assumes nothing.
-use mathlib.Core.Path.{_≡_, sym, ap, _∙_}
-use Prim.Native.Nat.{ℕ, _+_, _*_}
+use mathlib.Core.Path.{_∙_}
 use native.Mathlib.Omega.{arith}
 use Rattle.vhdx_entry.specs.Ring.{ring}
-use Rattle.vhdx_entry.specs.Entry.{descriptorSectors}
 use Rattle.vhdx_entry.proofs.Laws.{in-first}
 use Rattle.vhdx_entry.proofs.Clauses.{other-length, sector-broken, all-but-checksum}
 use borrow.Author.Needs.{needs}

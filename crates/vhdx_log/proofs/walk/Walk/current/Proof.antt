@@ -2,7 +2,6 @@
 -- Assumes nothing.
 use native.Mathlib.Omega.{arith}
 use Rattle.vhdx_log.proofs.Sectors.{at-end, at-sector}
-use borrow.Author.Needs.{needs}
 use Rattle.vhdx_log.proofs.walk.Walk.current.Statement.{statement}
 use Rattle.vhdx_log.proofs.walk.Walk.current.Tie as tie
 

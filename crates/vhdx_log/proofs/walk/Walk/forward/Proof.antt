@@ -1,9 +1,7 @@
 -- `vhdx_log::walk::Walk::forward` meets its contract: what is left behind k sectors is what is left behind `left` sectors of the present walk.
 -- Assumes nothing.
-use mathlib.Core.Path.{_≡_, refl, sym, ap, _∙_, subst}
-use mathlib.Core.List.{List}
-use Prim.Native.Nat.{ℕ, _+_, _/_, _≤_}
-use native.Mathlib.Omega.{arith}
+use mathlib.Core.Path.{_≡_, refl, sym, _∙_, subst}
+use Prim.Native.Nat.{_+_}
 use lib.ListN.{length, drop}
 use Rattle.vhdx_log.specs.declared.walk.Walk.{Walk}
 use Rattle.vhdx_log.specs.Walk.{descriptorsLeft}
