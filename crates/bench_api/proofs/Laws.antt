@@ -6,8 +6,8 @@ use mathlib.Core.Option.{Option, none}
 use Prim.Native.Nat.{ℕ}
 use lib.ListN.{length, set, getElem?}
 use Rattle.vhdx_log.specs.Work.{Plan, Sector, count, sectors}
-use Rattle.vhdx_log.specs.Walk.{descriptorsLeft}
-use Rattle.vhdx_log.specs.Steps.{sectorsLeft, nextOf, walkFrom, Ready}
+use Rattle.vhdx_log.specs.Cursor.{descriptorsLeft}
+use Rattle.vhdx_log.specs.Walk.{sectorsLeft, nextOf, walkFrom, Ready}
 use Rattle.vhdx_log.specs.Answers.{planIn, countOf, ReadyIn}
 use Rattle.vhdx_log.specs.declared.Answer.{Answer}
 use Rattle.vhdx_log.specs.declared.Answer.the-variants.{Refused, Apply}

@@ -7,7 +7,7 @@ use mathlib.Core.Path.{_≡_}
 use Prim.Native.Nat.{ℕ}
 use lib.ListN.{set}
 use Rattle.vhdx_log.specs.Work.{Plan, refused, apply, count, Sector}
-use Rattle.vhdx_log.specs.Steps.{nextOf}
+use Rattle.vhdx_log.specs.Walk.{nextOf}
 use Rattle.vhdx_log.specs.declared.run.Source.{Source}
 use Rattle.vhdx_log.specs.declared.run.Source.the-variants.{Zeros, Data}
 use Rattle.vhdx_log.specs.declared.walk.Next.{Next}

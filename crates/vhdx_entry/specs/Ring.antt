@@ -7,6 +7,7 @@ use Prim.Native.Nat.{ℕ, _+_, _*_, _/_, _%_, _<_}
 use lib.ListN.{length, take, drop}
 use Rattle.vhdx_entry.specs.declared.ring.RingPos.{RingPos}
 
+-- "A valid entry starts at a multiple of 4,096"
 abbrev pub sectorSize : ℕ
 sectorSize = 4096
 

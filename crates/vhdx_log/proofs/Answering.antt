@@ -24,7 +24,7 @@ use Rattle.vhdx_log.specs.declared.Answer.{Answer}
 use Rattle.vhdx_log.specs.declared.Answer.the-variants.{Refused, Apply}
 use Rattle.vhdx_log.specs.Work.{Descriptor, head, allDescriptors, sectors, furthest, Extent, someLies, Plan, refused, apply, count, lengthLimit, applyWithin, work}
 use Rattle.vhdx_log.specs.Plan.{entriesFrom, logBytes, planSequence, planLog, planHeader, plan}
-use Rattle.vhdx_log.specs.Walk.{descriptorsOn, AllReadable, Walkable}
+use Rattle.vhdx_log.specs.Cursor.{descriptorsOn, AllReadable, Walkable}
 use Rattle.vhdx_log.specs.Survey.{capped, surveyOf}
 use Rattle.vhdx_log.specs.Answers.{logOf, planOf, countOf, ReadyIn, Stands}
 use Rattle.vhdx_log.proofs.Chains.{chain-descriptors, first-placed, first-descriptors}

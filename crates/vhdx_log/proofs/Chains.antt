@@ -17,7 +17,7 @@ use Rattle.vhdx_entry.proofs.Clauses.{keeps}
 use Rattle.vhdx_sequence.specs.Linked.{Linked, total}
 use Rattle.vhdx_log.specs.Work.{Descriptor, LogEntry, head, allDescriptors}
 use Rattle.vhdx_log.specs.Plan.{descriptorsFrom, logEntry, entriesFrom}
-use Rattle.vhdx_log.specs.Walk.{behind, descriptorsOn, Readable, AllReadable, Placed, Walkable}
+use Rattle.vhdx_log.specs.Cursor.{behind, descriptorsOn, Readable, AllReadable, Placed, Walkable}
 use Rattle.vhdx_log.proofs.Parts.{header-field}
 
 -- the cursor at the first descriptor of the entry at sector s and the k after it

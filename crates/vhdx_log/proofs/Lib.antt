@@ -7,3 +7,4 @@ pub mod Surveys
 pub mod Decisions
 pub mod Answering
 pub mod Examples
+pub mod Again

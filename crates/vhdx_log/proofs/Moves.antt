@@ -15,7 +15,7 @@ use Rattle.vhdx_log.specs.declared.cursor.Cursor.{Cursor}
 use Rattle.vhdx_log.specs.declared.cursor.Move.the-variants.{Entry, Descriptor as Named}
 use Rattle.vhdx_log.specs.Work.{Descriptor, writes, zeros}
 use Rattle.vhdx_log.specs.Plan.{sectorBytes, descriptorOf, descriptorsFrom}
-use Rattle.vhdx_log.specs.Walk.{descriptorIn, Proper, behind, descriptorsOn, Readable, AllReadable, Within, Placed, Onward}
+use Rattle.vhdx_log.specs.Cursor.{descriptorIn, Proper, behind, descriptorsOn, Readable, AllReadable, Within, Placed, Onward}
 use Rattle.vhdx_log.proofs.Parts.{data-more, data-rank, descriptors-fit, zeros-whole, same-length, size-within}
 
 -- ---- the descriptors that are left

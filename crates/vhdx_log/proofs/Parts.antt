@@ -17,7 +17,7 @@ use Rattle.vhdx_entry.specs.Entry.{descriptor, descriptorStart, descriptorCount
 use Rattle.vhdx_entry.proofs.Laws.{within-take, length-ring, sector-on, first-field, ring-part, every-at}
 use Rattle.vhdx_log.specs.Work.{writes}
 use Rattle.vhdx_log.specs.Plan.{sectorBytes}
-use Rattle.vhdx_log.specs.Walk.{Readable}
+use Rattle.vhdx_log.specs.Cursor.{Readable}
 
 -- ---- data descriptors before others
 

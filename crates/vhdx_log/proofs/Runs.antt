@@ -13,7 +13,7 @@ use Rattle.vhdx_log.specs.declared.run.Source.{Source}
 use Rattle.vhdx_log.specs.declared.run.Source.the-variants.{Zeros, Data}
 use Rattle.vhdx_log.specs.declared.run.Run.{Run}
 use Rattle.vhdx_log.specs.Work.{Sector, sectorsAt, sectorsOf, end, Extent, lies, someLies}
-use Rattle.vhdx_log.specs.Walk.{bytesOf, descriptorBy, descriptorIn, ProperBy, Proper}
+use Rattle.vhdx_log.specs.Cursor.{bytesOf, descriptorBy, descriptorIn, ProperBy, Proper}
 
 sectors-by : (log : List ℕ) (source : Source) (offset n : ℕ) → ProperBy log source n → sectorsOf (descriptorBy log source offset n) ≡ sectorsAt (n / 4096) offset (bytesOf log source)
 sectors-by log Zeros offset n p = refl

@@ -18,8 +18,8 @@ use Rattle.vhdx_log.specs.declared.cursor.Move.the-variants.{Done, Entry
 use Rattle.vhdx_log.specs.declared.walk.Walk.{Walk}
 use Rattle.vhdx_log.specs.declared.walk.Loaded.the-variants.{Nothing, At}
 use Rattle.vhdx_log.specs.Work.{Descriptor, Sector, sectorsAt, sectors, end, furthest, lengthLimit}
-use Rattle.vhdx_log.specs.Walk.{bytesOf, descriptorIn, descriptorsLeft, Placed, Proper, ProperBy, Onward}
-use Rattle.vhdx_log.specs.Steps.{sectorsIn, sectorsLeft, Held, Ready, Settled, walkFrom, Following}
+use Rattle.vhdx_log.specs.Cursor.{bytesOf, descriptorIn, descriptorsLeft, Placed, Proper, ProperBy, Onward}
+use Rattle.vhdx_log.specs.Walk.{sectorsIn, sectorsLeft, Held, Ready, Settled, walkFrom, Following}
 use Rattle.vhdx_log.proofs.Runs.{run-sectors, run-end, length-sectors}
 
 -- ---- sectors one behind the other

@@ -10,8 +10,8 @@ use Rattle.vhdx_log.specs.declared.Answer.{Answer}
 use Rattle.vhdx_log.specs.declared.Answer.the-variants.{Refused, Apply}
 use Rattle.vhdx_log.specs.Work.{sectors, Plan, refused, apply, count}
 use Rattle.vhdx_log.specs.Plan.{logBytes}
-use Rattle.vhdx_log.specs.Walk.{descriptorsLeft}
-use Rattle.vhdx_log.specs.Steps.{walkFrom, Ready}
+use Rattle.vhdx_log.specs.Cursor.{descriptorsLeft}
+use Rattle.vhdx_log.specs.Walk.{walkFrom, Ready}
 
 -- the log's bytes in a buffer whose first n bytes are the image: where the current header says, none without one
 abbrev pub logBy : HeaderAnswer → List ℕ → List ℕ

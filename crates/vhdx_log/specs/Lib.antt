@@ -1,6 +1,6 @@
 pub mod Work
 pub mod Plan
+pub mod Cursor
 pub mod Walk
-pub mod Steps
 pub mod Survey
 pub mod Answers

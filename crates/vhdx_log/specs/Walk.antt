@@ -1,96 +1,67 @@
--- What a walk over the descriptors of a found sequence says: what a run stands for, which descriptors a cursor has before it,
--- and what a move of it does.
+-- The walk over a plan's sectors, one after the other: which sectors it has before it, and the sector that it answers.
 -- Assumes nothing.
-use mathlib.Core.Bool.{true}
-use mathlib.Core.List.{List, [], _∷_, _++_}
+use mathlib.Core.List.{List, [], _++_}
+use mathlib.Core.Option.{Option, none, some}
 use mathlib.Core.Path.{_≡_}
-use Prim.Native.Nat.{ℕ, zero, suc, _+_, _-_, _*_, _%_, _≤_, _<_}
-use lib.ListN.{length, take, drop}
-use Rattle.extent.specs.Extent.{MiB}
-use Rattle.vhdx_entry.specs.Ring.{sectorSize, sectorCount, ring, On}
-use Rattle.vhdx_entry.specs.Entry.{dataBefore, descriptorCount, size, fitsRule, entryLengthRule, descriptorsRule}
+use Prim.Native.Nat.{ℕ, _+_, _/_, _≤_, _<_}
+use lib.ListN.{length}
+use Rattle.vhdx_entry.specs.Ring.{sectorSize}
 use Rattle.vhdx_log.specs.declared.run.Source.{Source}
 use Rattle.vhdx_log.specs.declared.run.Source.the-variants.{Zeros, Data}
 use Rattle.vhdx_log.specs.declared.run.Run.{Run}
 use Rattle.vhdx_log.specs.declared.cursor.Cursor.{Cursor}
-use Rattle.vhdx_log.specs.declared.cursor.Move.{Move}
-use Rattle.vhdx_log.specs.declared.cursor.Move.the-variants.{Done, Entry, Descriptor as Named}
-use Rattle.vhdx_log.specs.Work.{Descriptor, writes, zeros, zeroSector}
-use Rattle.vhdx_log.specs.Plan.{sectorBytes, descriptorsFrom}
+use Rattle.vhdx_log.specs.declared.walk.Walk as walk
+use Rattle.vhdx_log.specs.declared.walk.SectorWrite.{SectorWrite}
+use Rattle.vhdx_log.specs.declared.walk.Next.{Next}
+use Rattle.vhdx_log.specs.declared.walk.Next.the-variants.{Sector as Here, End}
+use Rattle.vhdx_log.specs.declared.walk.Loaded.{Loaded}
+use Rattle.vhdx_log.specs.declared.walk.Loaded.the-variants.{Nothing, At}
+use Rattle.vhdx_log.specs.Work.{Sector, sectorsAt, sectors, furthest, lengthLimit}
+use Rattle.vhdx_log.specs.Cursor.{bytesOf, descriptorsLeft, Placed}
 
--- ---- runs
+-- the sectors of a run
+abbrev pub sectorsIn : List ℕ → Run → List Sector
+sectorsIn log run = sectorsAt (run .length / sectorSize) (run .offset) (bytesOf log (run .source))
 
--- the bytes of each of a run's sectors
-abbrev pub bytesOf : List ℕ → Source → List ℕ
-bytesOf log Zeros = zeroSector
-bytesOf log (Data descriptor sector) = sectorBytes (take 32 (drop descriptor log)) (take sectorSize (drop sector log))
+-- the sectors that are still to come: the rest of the run that the walk is in, then those of the descriptors behind it
+unfoldable pub sectorsLeft : List ℕ → walk.Walk → List Sector
+sectorsLeft log w = sectorsIn log (w .run) ++ sectors (descriptorsLeft log (w .cursor))
 
--- the descriptor that a run of this source, at this offset and of this length, is
-abbrev pub descriptorBy : List ℕ → Source → ℕ → ℕ → Descriptor
-descriptorBy log Zeros offset n = zeros offset n
-descriptorBy log (Data descriptor sector) offset n = writes offset (bytesOf log (Data descriptor sector))
+-- at a cursor, with no run before it
+abbrev pub walkFrom : Cursor → walk.Walk
+walkFrom c = record { run = record { offset = 0; length = 0; source = Zeros }; cursor = c }
 
-abbrev pub descriptorIn : List ℕ → Run → Descriptor
-descriptorIn log run = descriptorBy log (run .source) (run .offset) (run .length)
+-- the sector that is answered: its place, and its bytes by where they are
+abbrev pub sectorOf : List ℕ → SectorWrite → Sector
+sectorOf log s = record { offset = s .offset; bytes = bytesOf log (s .source) }
 
--- whole sectors, and just one where the log holds its bytes
-abbrev pub ProperBy : List ℕ → Source → ℕ → Type 0
-ProperBy log Zeros n = n % sectorSize ≡ 0
-ProperBy log (Data descriptor sector) n =
-    (n ≡ sectorSize) × (descriptor + 32 ≤ length log) × (sector + sectorSize ≤ length log)
+abbrev pub nextOf : List ℕ → Next → Option Sector
+nextOf log (Here s) = some (sectorOf log s)
+nextOf log End = none
 
-abbrev pub Proper : List ℕ → Run → Type 0
-Proper log run = ProperBy log (run .source) (run .length)
+-- the bytes of a source are in the log
+abbrev pub Held : List ℕ → Source → Type 0
+Held log Zeros = Unit {0}
+Held log (Data descriptor sector) = (descriptor + 32 ≤ length log) × (sector + sectorSize ≤ length log)
 
--- ---- cursors
+abbrev pub HeldNext : List ℕ → Next → Type 0
+HeldNext log (Here s) = Held log (s .source)
+HeldNext log End = Unit {0}
 
--- where the entry after the one at sector s starts
-abbrev pub behind : List ℕ → ℕ → ℕ
-behind log s = (s + size (ring log s)) % sectorCount log
+-- what a walk relies on: no sector ends above the limit of refusal 8, so that no offset wraps
+pub record Ready (log : List ℕ) (w : walk.Walk) : Type 0 where
+  pub placed : Placed log (w .cursor)
+  pub bounded : furthest (descriptorsLeft log (w .cursor)) ≤ lengthLimit
+  pub ends : 0 < w .run .length → w .run .offset + w .run .length ≤ lengthLimit
+  pub held : Held log (w .run .source)
 
--- the descriptors of `left` entries, from number `index` of the one at sector s on
-unfoldable pub descriptorsOn : List ℕ → ℕ → ℕ → ℕ → List Descriptor
-descriptorsOn log s index zero = []
-descriptorsOn log s index (suc left) =
-    descriptorsFrom (ring log s) index (descriptorCount (ring log s) - index) ++ descriptorsOn log (behind log s) 0 left
+-- the walk is at a sector, or there is none left
+unfoldable pub Settled : List ℕ → walk.Walk → Type 0
+Settled log w = (w .run .length < sectorSize) → sectorsLeft log w ≡ []
 
-abbrev pub descriptorsLeft : List ℕ → Cursor → List Descriptor
-descriptorsLeft log c = descriptorsOn log (c .pos .at) (c .index) (c .left)
-
--- what a walk relies on of an entry
-pub record Readable (r : List ℕ) : Type 0 where
-  pub fits : fitsRule r ≡ true
-  pub exact : entryLengthRule r ≡ true
-  pub described : descriptorsRule r ≡ true
-
--- of the k entries from sector s on
-unfoldable pub AllReadable : List ℕ → ℕ → ℕ → Type 0
-AllReadable log s zero = Unit {0}
-AllReadable log s (suc k) = Readable (ring log s) × AllReadable log (behind log s) k
-
--- in an entry: at one of its descriptors or behind them, with the data descriptors before it counted
-pub record Within (log : List ℕ) (c : Cursor) : Type 0 where
-  pub on : On log (c .pos)
-  pub within : c .index ≤ descriptorCount (ring log (c .pos .at))
-  pub rank : c .data ≡ dataBefore (ring log (c .pos .at)) (c .index)
-
-pub record Placed (log : List ℕ) (c : Cursor) : Type 0 where
-  pub here : 0 < c .left → Within log c
-  pub readable : AllReadable log (c .pos .at) (c .left)
-
--- what a move says, and where the moved cursor is
-abbrev pub Onward : List ℕ → Cursor → Move → Type 0
-Onward log c Done = descriptorsLeft log c ≡ []
-Onward log c (Entry next) = (descriptorsLeft log c ≡ descriptorsLeft log next) × Placed log next × (next .left < c .left)
-Onward log c (Named run next) =
-    (descriptorsLeft log c ≡ descriptorIn log run ∷ descriptorsLeft log next) × Placed log next × (next .left ≡ c .left) × Proper log run
-
--- what is known of the entry at sector s and the `more` after it, where they are a found sequence's: they can be walked, and
--- have few descriptors
-pub record Walkable (log : List ℕ) (s more : ℕ) : Type 0 where
-  pub whole : length log % sectorSize ≡ 0
-  pub small : length log ≤ 64 * MiB
-  pub start : s < sectorCount log
-  pub readable : AllReadable log s (suc more)
-  pub short : more < sectorCount log
-  pub few : length (descriptorsOn log s 0 (suc more)) ≤ 128 * sectorCount log
+-- what follows from a cursor on: nothing, or a walk that has fewer descriptors or entries before it
+abbrev pub Following : List ℕ → Cursor → Loaded → Type 0
+Following log c Nothing = sectors (descriptorsLeft log c) ≡ []
+Following log c (At w) =
+    (sectors (descriptorsLeft log c) ≡ sectorsLeft log w) × Ready log w
+    × (length (descriptorsLeft log (w .cursor)) + w .cursor .left < length (descriptorsLeft log c) + c .left)

@@ -11,7 +11,7 @@ ghost use mathlib.Core.Path.{_≡_};
 ghost use Prim.Native.Nat.{_<_};
 ghost use Rattle.vhdx_entry.specs.Ring.{ring as ringOf};
 ghost use Rattle.vhdx_entry.specs.Entry.{descriptorCount};
-ghost use Rattle.vhdx_log.specs.Walk.{Placed, Onward};
+ghost use Rattle.vhdx_log.specs.Cursor.{Placed, Onward};
 
 // The entry at a position and those after it, `left` in all. Of that entry `index` is the next descriptor, and `data`
 // counts the data descriptors before it.

@@ -17,7 +17,7 @@ ghost use lib.Dec.{leb};
 ghost use lib.ListN.{length as lengthOf};
 ghost use Rattle.vhdx_log.specs.Work.{work, applyWithin, lengthLimit};
 ghost use Rattle.vhdx_log.specs.Plan.{entriesFrom};
-ghost use Rattle.vhdx_log.specs.Walk.{Walkable};
+ghost use Rattle.vhdx_log.specs.Cursor.{Walkable};
 ghost use Rattle.vhdx_log.specs.Answers.{Stands};
 
 // 128 TiB

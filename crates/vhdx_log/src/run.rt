@@ -9,7 +9,7 @@ ghost use Rattle.vhdx_entry.specs.Ring.{ring as ringOf, On};
 ghost use Rattle.vhdx_entry.specs.Entry.{descriptor as descriptorBytes, descriptorStart, descriptorSectors, descriptorCount, fileOffset, dataSector};
 ghost use Rattle.vhdx_log.specs.Work.{writes};
 ghost use Rattle.vhdx_log.specs.Plan.{sectorBytes};
-ghost use Rattle.vhdx_log.specs.Walk.{descriptorIn, Proper};
+ghost use Rattle.vhdx_log.specs.Cursor.{descriptorIn, Proper};
 
 // Where the bytes of a run's sectors are: nowhere, or in the log, by the offsets in it of a data descriptor and its data
 // sector.

@@ -5,7 +5,7 @@ use crate::cursor::Move;
 use crate::number;
 use crate::run::Run;
 ghost use mathlib.Core.Path.{_≡_};
-ghost use Rattle.vhdx_log.specs.Walk.{descriptorsLeft, Placed};
+ghost use Rattle.vhdx_log.specs.Cursor.{descriptorsLeft, Placed};
 ghost use Rattle.vhdx_log.specs.Survey.{surveyOf, added};
 
 // An end or a count above 2^64 - 1 stands as 2^64 - 1.

@@ -8,8 +8,8 @@ ghost use mathlib.Core.Path.{_≡_};
 ghost use Prim.Native.Nat.{_+_, _*_, _/_, _≤_, _<_};
 ghost use lib.ListN.{drop, getElem?};
 ghost use Rattle.vhdx_log.specs.Work.{furthest, lengthLimit};
-ghost use Rattle.vhdx_log.specs.Walk.{descriptorsLeft, Placed};
-ghost use Rattle.vhdx_log.specs.Steps.{sectorsLeft, nextOf, HeldNext, Ready, Settled, walkFrom, Following};
+ghost use Rattle.vhdx_log.specs.Cursor.{descriptorsLeft, Placed};
+ghost use Rattle.vhdx_log.specs.Walk.{sectorsLeft, nextOf, HeldNext, Ready, Settled, walkFrom, Following};
 
 // The rest of a run of sectors, and the cursor behind the run's descriptor.
 pub struct Walk {

@@ -6,7 +6,7 @@ use native.Mathlib.Omega.{arith}
 use Rattle.vhdx_entry.specs.Ring.{On}
 use Rattle.vhdx_log.specs.Work.{head}
 use Rattle.vhdx_log.specs.Plan.{entriesFrom}
-use Rattle.vhdx_log.specs.Walk.{AllReadable}
+use Rattle.vhdx_log.specs.Cursor.{AllReadable}
 use Rattle.vhdx_log.proofs.Moves.{first-readable, rest-readable}
 use Rattle.vhdx_log.proofs.Chains.{head-onward, head-only}
 use borrow.Author.Needs.{needs}

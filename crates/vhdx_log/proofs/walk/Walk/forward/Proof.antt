@@ -4,8 +4,8 @@ use mathlib.Core.Path.{_≡_, refl, sym, _∙_, subst}
 use Prim.Native.Nat.{_+_}
 use lib.ListN.{length, drop}
 use Rattle.vhdx_log.specs.declared.walk.Walk.{Walk}
-use Rattle.vhdx_log.specs.Walk.{descriptorsLeft}
-use Rattle.vhdx_log.specs.Steps.{sectorsLeft, Ready, Settled, walkFrom, Following}
+use Rattle.vhdx_log.specs.Cursor.{descriptorsLeft}
+use Rattle.vhdx_log.specs.Walk.{sectorsLeft, Ready, Settled, walkFrom, Following}
 use Rattle.vhdx_log.proofs.Sectors.{from-ready, all-passed, past-run, settled-end, settled-sector, left-from}
 use borrow.Author.Needs.{needs}
 use Rattle.vhdx_log.proofs.walk.Walk.forward.Statement.{statement}

@@ -5,7 +5,7 @@ use mathlib.Core.List.{List}
 use lib.ListN.{getElem?}
 use borrow.Author.Needs.{needs}
 use Rattle.vhdx_log.specs.Work.{Sector}
-use Rattle.vhdx_log.specs.Steps.{sectorsLeft}
+use Rattle.vhdx_log.specs.Walk.{sectorsLeft}
 use Rattle.vhdx_log.proofs.Sectors.{nth-drop}
 use Rattle.vhdx_log.proofs.walk.Walk.nth.Statement.{statement}
 use Rattle.vhdx_log.proofs.walk.Walk.nth.Tie as tie

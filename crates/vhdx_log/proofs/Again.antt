@@ -1,0 +1,90 @@
+-- A plan is made again from any buffer of the same length with the same first MiB and the same log, at any length from the
+-- image's to the final one: what replay needs, since it grows the image and writes neither there.
+-- Assumes nothing.
+use mathlib.Core.Path.{_≡_, refl, ap, _∙_}
+use mathlib.Core.Bool.{Bool, true, false, cond, not, _&&_, and-eq-true-iff}
+use mathlib.Core.List.{List, []}
+use mathlib.Core.Option.{Option, none, some}
+use Prim.Native.Nat.{ℕ, _≤_}
+use native.Mathlib.Omega.{arith}
+use lib.Dec.{leb, eqb}
+use lib.ListN.{length}
+use borrow.Author.Tests.{leb-true, le-leb}
+use Rattle.field.specs.Fields.{number}
+use Rattle.vhdx_header.specs.declared.Header.{Header}
+use Rattle.vhdx_header.specs.declared.Answer.{Answer}
+use Rattle.vhdx_header.specs.declared.Answer.the-variants.{Refused, Current}
+use Rattle.vhdx_header.specs.Current.{firstMiB, currentHeader}
+use Rattle.vhdx_header.proofs.Laws.{read-again}
+use Rattle.vhdx_sequence.specs.declared.Sequence.{Sequence}
+use Rattle.vhdx_sequence.specs.Sequence.{activeSequence}
+use Rattle.vhdx_log.specs.Work.{Entries, head, allDescriptors, Sector, sectors, finalLength, Extent, someLies, Plan, apply, check, lengthLimit, applyWithin, work}
+use Rattle.vhdx_log.specs.Plan.{entriesFrom, logBytes, extentOf, planSequence, planLog, planHeader, plan}
+
+-- a plan that is no refusal passed the test
+passed : (t : Bool) (c : ℕ) (p : Plan) {m : ℕ} {ss : List Sector} → check t c p ≡ apply m ss → (t ≡ true) × (p ≡ apply m ss)
+passed true c p h = (refl, h)
+passed false c p h = let z : _≡_ {A = ℕ} 0 1 = cc in absurd (omega arith)
+
+final-is : {a m : ℕ} {ss tt : List Sector} → apply a ss ≡ apply m tt → a ≡ m
+final-is h = cc
+
+-- what 8 says of a plan
+record Within (capacity final m : ℕ) : Type 0 where
+  same : final ≡ m
+  fits : m ≤ capacity
+  again : (leb final capacity && leb final lengthLimit) ≡ true
+
+within : (capacity final : ℕ) (l : List Sector) {m : ℕ} {ss : List Sector} → applyWithin capacity final l ≡ apply m ss → Within capacity final m
+within capacity final l h =
+    let p = passed (leb final capacity && leb final lengthLimit) 8 (apply final l) h in
+    let e = final-is (p .1) in
+    let b : final ≤ capacity = leb-true final capacity (and-eq-true-iff (leb final capacity) (leb final lengthLimit) .0 (p .0) .0) in
+    record { same = e; fits = omega arith; again = p .0 }
+
+module _ {n n′ m capacity : ℕ} {ss : List Sector} (longer : n ≤ n′) (below : n′ ≤ m) where
+  work-again : (e : Extent) (es : Entries) → work e es n capacity ≡ apply m ss → (work e es n′ capacity ≡ apply m ss) × (m ≤ capacity)
+  unfolding work
+  work-again e es h =
+      let ds = sectors (allDescriptors es) in
+      let a = passed (leb (head es .flushed) n) 6 (check (not (someLies e ds)) 7 (applyWithin capacity (finalLength es n) ds)) h in
+      let b = passed (not (someLies e ds)) 7 (applyWithin capacity (finalLength es n) ds) (a .1) in
+      let w = within capacity (finalLength es n) ds (b .1) in
+      let f : head es .flushed ≤ n = leb-true (head es .flushed) n (a .0) in
+      let l : finalLength es n′ ≡ finalLength es n = omega (arith, w .same) in (
+        ap (λ (t : Bool). check t 6 (check (not (someLies e ds)) 7 (applyWithin capacity (finalLength es n′) ds))) (le-leb (head es .flushed) n′ (omega arith))
+            ∙ ap (λ (t : Bool). check t 7 (applyWithin capacity (finalLength es n′) ds)) (b .0)
+            ∙ ap (λ (x : ℕ). applyWithin capacity x ds) l ∙ b .1,
+        w .fits,
+      )
+
+  sequence-again : (e : Extent) (log : List ℕ) (q : Option Sequence) → planSequence e log n capacity q ≡ apply m ss → (planSequence e log n′ capacity q ≡ apply m ss) × (m ≤ capacity)
+  unfolding planSequence
+  sequence-again e log none h = let z : _≡_ {A = ℕ} 0 1 = cc in absurd (omega arith)
+  sequence-again e log (some q) h = work-again e (entriesFrom log (q .start) (q .more)) h
+
+  log-again : (h : Header) (log : List ℕ) → planLog h log n capacity ≡ apply m ss → (planLog h log n′ capacity ≡ apply m ss) × (m ≤ capacity)
+  unfolding planLog
+  log-again h log e = go (eqb (number (h .«log_guid»)) 0) e
+    where
+      go : (t : Bool) → cond t (applyWithin capacity n []) (planSequence (extentOf h) log n capacity (activeSequence log (h .«log_guid»))) ≡ apply m ss
+          → (cond t (applyWithin capacity n′ []) (planSequence (extentOf h) log n′ capacity (activeSequence log (h .«log_guid»))) ≡ apply m ss) × (m ≤ capacity)
+      go false p = sequence-again (extentOf h) log (activeSequence log (h .«log_guid»)) p
+      go true p =
+          let w = within capacity n [] p in
+          (ap (λ (x : ℕ). applyWithin capacity x []) {x = n′} {y = n} (omega (arith, w .same)) ∙ p, w .fits)
+
+module _ (b b′ : List ℕ) {n n′ m : ℕ} {ss : List Sector} (longer : n ≤ n′) (below : n′ ≤ m) (capacity : length b′ ≡ length b) (first : firstMiB b′ ≡ firstMiB b)
+    (log : (h : Header) → currentHeader b n ≡ Current h → logBytes h b′ ≡ logBytes h b) where
+  pub plan-again : plan b n ≡ apply m ss → plan b′ n′ ≡ apply m ss
+  unfolding plan planHeader
+  plan-again e = go (currentHeader b n) refl e
+    where
+      go : (a : Answer) → currentHeader b n ≡ a → planHeader a b n ≡ apply m ss → planHeader (currentHeader b′ n′) b′ n′ ≡ apply m ss
+      go (Refused c) k p = let z : _≡_ {A = ℕ} 0 1 = cc in absurd (omega arith)
+      go (Current h) k p =
+          let q = log-again {n = n} {n′ = n′} {m = m} {capacity = length b} {ss = ss} longer below h (logBytes h b) p in
+          let current = read-again b n k b′ n′ first longer (omega (arith, q .1)) in
+          ap (λ (a : Answer). planHeader a b′ n′) current
+          ∙ ap (λ (l : List ℕ). planLog h l n′ (length b′)) (log h k)
+          ∙ ap (planLog h (logBytes h b) n′) capacity ∙ q .0
