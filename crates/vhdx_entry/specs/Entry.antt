@@ -123,6 +123,7 @@ every (suc m) f = every m f && f m
 
 -- ---- the clauses
 
+-- "header, 64 bytes: "loge""
 abbrev pub signatureRule : List ℕ → Bool
 signatureRule r = eqb (signature r) loge
 
@@ -138,10 +139,11 @@ tailRule logLength r = wholeSectors (tail r) && ltb (tail r) logLength
 abbrev pub numberRule : List ℕ → Bool
 numberRule r = leb 1 (sequenceNumber r)
 
--- "EntryLength is exactly that sum (house rule) and at most the log length."
+-- "EntryLength is .. at most the log length.": that sum is, which it is exactly
 abbrev pub fitsRule : List ℕ → Bool
 fitsRule r = leb (size r * sectorSize) (length r)
 
+-- "EntryLength is exactly that sum (house rule)"
 abbrev pub entryLengthRule : List ℕ → Bool
 entryLengthRule r = eqb (entryLength r) (size r * sectorSize)
 
@@ -151,13 +153,15 @@ unfoldable pub descriptorRule : ℕ → List ℕ → Bool
 descriptorRule number d =
     (isData d || (isZero d && wholeSectors (zeroLength d))) && (wholeSectors (fileOffset d) && eqb (descriptorNumber d) number)
 
+-- of all of them
 unfoldable pub descriptorsRule : List ℕ → Bool
 descriptorsRule r = every (descriptorCount r) (λ i. descriptorRule (sequenceNumber r) (descriptor r i))
 
--- ""data", SequenceHigh (4), 4,084 bytes, SequenceLow (4)": of a data sector s
+-- ""data", SequenceHigh (4), 4,084 bytes, SequenceLow (4)", the number repeated in the two: of a data sector s
 unfoldable pub dataSectorRule : ℕ → List ℕ → Bool
 dataSectorRule number s = eqb (signature s) datum && eqb (field s 4 4 * 2 ^ 32 + field s 4092 4) number
 
+-- of all of them
 unfoldable pub dataSectorsRule : List ℕ → Bool
 dataSectorsRule r = every (dataCount r) (λ k. dataSectorRule (sequenceNumber r) (dataSector r k))
 
@@ -169,6 +173,7 @@ checksumRule r = eqb (checksum r) (crc (zeroed (take (entryLength r) r) 4))
 unfoldable pub headerRule : Guid → ℕ → List ℕ → Bool
 headerRule guid logLength r = signatureRule r && (guidRule guid r && (tailRule logLength r && numberRule r))
 
+-- a valid entry, in an image whose log has this identifier: every clause
 unfoldable pub validEntry : Guid → List ℕ → Bool
 validEntry guid r =
     headerRule guid (length r) r && (fitsRule r && (descriptorsRule r && (entryLengthRule r && (dataSectorsRule r && checksumRule r))))
@@ -177,6 +182,7 @@ validEntry guid r =
 abbrev pub contents : List ℕ → Entry
 contents r = record { size = size r; number = sequenceNumber r; tail = tail r / sectorSize }
 
+-- a, if the test holds
 abbrev pub onlyIf : {A : Type 0} → Bool → A → Option A
 onlyIf true a = some a
 onlyIf false a = none
