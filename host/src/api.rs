@@ -39,26 +39,29 @@ pub enum Sector {
 }
 
 pub fn crc32c(bytes: &[u8]) -> u32 {
+    // SAFETY: the function reads `length` bytes from the pointer on, which are the slice's.
     unsafe { shrunvaki_bench_crc32c(bytes.as_ptr(), bytes.len()) }
 }
 
 /// Of the image that is the first `length` bytes of the buffer.
 pub fn plan(buffer: &[u8], length: u64) -> Plan {
     let mut answer = [0u64; 2];
-    match unsafe {
-        shrunvaki_bench_plan(buffer.as_ptr(), buffer.len(), length, answer.as_mut_ptr())
-    } {
+    // SAFETY: as above; of the answer two numbers are written, which it has.
+    let refusal =
+        unsafe { shrunvaki_bench_plan(buffer.as_ptr(), buffer.len(), length, answer.as_mut_ptr()) };
+    match refusal {
         0 => Plan::Apply {
             length: answer[0],
             count: answer[1],
         },
-        refusal => Plan::Refused(refusal),
+        _ => Plan::Refused(refusal),
     }
 }
 
 /// Sector number k of the plan.
 pub fn sector(buffer: &[u8], length: u64, k: u64) -> Option<Sector> {
     let mut answer = [0u64; 3];
+    // SAFETY: as above; of the answer at most three numbers are written, which it has.
     let kind = unsafe {
         shrunvaki_bench_sector(
             buffer.as_ptr(),

@@ -279,6 +279,15 @@ fn ring_of(entries: &[(usize, Entry)]) -> Image {
     image
 }
 
+/// Numbered entries: the sector of each, its number, and the sector of its Tail.
+fn chain(entries: &[(usize, u64, usize)]) -> Image {
+    let mut image = Image::small();
+    for &(sector, number, tail) in entries {
+        image.entry(sector, &numbered(number, tail));
+    }
+    image
+}
+
 #[test]
 fn a_sequence_that_fills_the_ring() {
     for start in [0, 1, 100, 255] {
@@ -321,11 +330,7 @@ fn an_entry_round_the_rings_end() {
 
 #[test]
 fn the_greatest_head_number_then_the_lowest_offset() {
-    let image = ring_of(&[
-        (10, numbered(5, 10)),
-        (50, numbered(6, 50)),
-        (90, numbered(4, 90)),
-    ]);
+    let image = chain(&[(10, 5, 10), (50, 6, 50), (90, 4, 90)]);
     assert_eq!(numbers(&image), [6]);
     let low = Entry::new(7, 20).with(zero(2 * M + 4096, 4096));
     let high = Entry::new(7, 60).with(zero(2 * M + 8192, 4096));
@@ -347,11 +352,7 @@ fn the_greatest_number_has_no_successor() {
     zero_number.number = 0;
     let image = ring_of(&[(0, numbered(u64::MAX, 0)), (1, zero_number)]);
     assert_eq!(numbers(&image), [255]);
-    let image = ring_of(&[
-        (0, numbered(u64::MAX - 1, 0)),
-        (1, numbered(u64::MAX, 0)),
-        (2, numbered(1, 0)),
-    ]);
+    let image = chain(&[(0, u64::MAX - 1, 0), (1, u64::MAX, 0), (2, 1, 0)]);
     assert_eq!(numbers(&image), [254, 255]);
 }
 
@@ -392,43 +393,22 @@ fn tails() {
         assert_eq!(plan(&image), Plan::Refused(5), "Tail {tail}");
     }
     // no entry's Tail is right
-    assert_eq!(
-        plan(&ring_of(&[(0, numbered(5, 1)), (1, numbered(6, 2))])),
-        Plan::Refused(5)
-    );
+    assert_eq!(plan(&chain(&[(0, 5, 1), (1, 6, 2)])), Plan::Refused(5));
 }
 
 #[test]
 fn stale_and_torn_entries() {
     // a stale entry next to the first one, its number two below
-    assert_eq!(
-        numbers(&ring_of(&[
-            (0, numbered(3, 0)),
-            (1, numbered(5, 1)),
-            (2, numbered(6, 1))
-        ])),
-        [5, 6]
-    );
+    assert_eq!(numbers(&chain(&[(0, 3, 0), (1, 5, 1), (2, 6, 1)])), [5, 6]);
     // a stale entry that goes on with the chain is in it only if the Tail says so
-    assert_eq!(
-        numbers(&ring_of(&[
-            (0, numbered(4, 0)),
-            (1, numbered(5, 1)),
-            (2, numbered(6, 1))
-        ])),
-        [5, 6]
-    );
+    assert_eq!(numbers(&chain(&[(0, 4, 0), (1, 5, 1), (2, 6, 1)])), [5, 6]);
     // the last entry is torn: the sequence before it
-    let mut image = ring_of(&[
-        (0, numbered(5, 0)),
-        (1, numbered(6, 0)),
-        (2, numbered(7, 0)),
-    ]);
+    let mut image = chain(&[(0, 5, 0), (1, 6, 0), (2, 7, 0)]);
     image.log_mut()[2 * SECTOR + 100] ^= 1;
     assert_eq!(numbers(&image), [5, 6]);
     // numbers that fall, stand still or rise by two
     for other in [4, 5, 7] {
-        let image = ring_of(&[(0, numbered(5, 0)), (1, numbered(other, 0))]);
+        let image = chain(&[(0, 5, 0), (1, other, 0)]);
         assert_eq!(numbers(&image), [5], "5 then {other}");
     }
 }

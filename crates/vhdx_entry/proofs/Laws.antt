@@ -4,7 +4,7 @@
 use mathlib.Core.Path.{_≡_, refl, sym, ap, _∙_}
 use mathlib.Core.Bool.{Bool, true, false, cond, _&&_, and-eq-true-iff, and-false}
 use mathlib.Core.List.{List, [], _∷_, _++_}
-use Prim.Native.Nat.{ℕ, zero, suc, _+_, _-_, _*_, _%_, _≤_, _<_}
+use Prim.Native.Nat.{ℕ, zero, suc, _+_, _-_, _*_, _/_, _%_, _≤_, _<_}
 use native.Mathlib.Decide.{decLt}
 use native.Mathlib.Nat.{mod-eq-of-lt, add-mod-right}
 use native.Mathlib.Numerals.{add-one}
@@ -12,10 +12,11 @@ use native.Mathlib.Omega.{arith}
 use lib.ListN.{length, take, drop, length-drop, length-append}
 use lib.Seq.{length-take-le, take-take, drop-drop, take-append-le, drop-append-le, drop-append-add, take-add}
 use Rattle.field.specs.Fields.{le, field}
-use Rattle.vhdx_entry.specs.Ring.{ring, sectorAt}
+use Rattle.vhdx_entry.specs.Ring.{ring, sectorAt, offsetIn, On}
+use Rattle.vhdx_entry.specs.declared.ring.RingPos.{RingPos}
 use Rattle.vhdx_entry.specs.Entry.{every, dataBefore, isData, descriptor}
 
--- once round: a place of the second lap is the same place of the first
+-- once round: a sector of the second lap is the same sector of the first
 pub mod-round : (n s c : ℕ) → s < n → c ≡ s + n → c % n ≡ s
 mod-round n s c b h = ap (λ (x : ℕ). x % n) h ∙ add-mod-right s n ∙ mod-eq-of-lt b
 
@@ -127,12 +128,25 @@ module _ (log : List ℕ) (n s : ℕ) (whole : length log ≡ n * 4096) (here : 
       ∙ ap (λ (x : ℕ). field (sectorAt log x) j w) (ap (λ (x : ℕ). x % n) {x = s + 0} (omega arith) ∙ mod-eq-of-lt here)
 
   -- a run of bytes that lies in one sector of the entry, as a descriptor does
-  pub ring-part : (k j w : ℕ) → k < n → j + w ≤ 4096 → take w (drop (k * 4096 + j) (ring log s)) ≡ take w (drop j (sectorAt log ((s + k) % n)))
+  ring-part : (k j w : ℕ) → k < n → j + w ≤ 4096 → take w (drop (k * 4096 + j) (ring log s)) ≡ take w (drop j (sectorAt log ((s + k) % n)))
   unfolding sectorAt
   ring-part k j w b h =
       sym (within-take w j 4096 (drop (k * 4096) (ring log s)) h ∙ ap (take w) (drop-drop j (k * 4096) (ring log s)))
       ∙ ap (λ (x : List ℕ). take w (drop j x)) (sector-on k b)
 
--- the same of a sector that was read at the entry's start
+-- bytes of the ring that lie in one sector, read off the log where they stand
+pub ring-bytes : (log : List ℕ) (p : RingPos) (m w : ℕ) → On log p → m < length log → m % 4096 + w ≤ 4096
+    → take w (drop (offsetIn p m) log) ≡ take w (drop m (ring log (p .at)))
+unfolding sectorAt
+ring-bytes log p m w on b h =
+    let k = m / 4096 in
+    let j = m % 4096 in
+    let t = (p .at + k) % p .len in
+    let same : k * 4096 + j ≡ m = omega arith in
+    sym (within-take w j 4096 (drop (t * 4096) log) h ∙ ap (take w) (drop-drop j (t * 4096) log))
+    ∙ sym (ring-part log (p .len) (p .at) (on .1) (on .0) k j w (omega arith) h)
+    ∙ ap (λ (n : ℕ). take w (drop n (ring log (p .at)))) same
+
+-- a field of a sector that was read at the entry's start
 pub in-first : (log : List ℕ) (n s : ℕ) {h : List ℕ} → (s < n) × (length log ≡ n * 4096) → h ≡ sectorAt log s → (j w : ℕ) → j + w ≤ 4096 → field h j w ≡ field (ring log s) j w
 in-first log n s on e j w b = ap (λ (x : List ℕ). field x j w) e ∙ sym (first-field log n s (on .1) (on .0) j w b)

@@ -10,7 +10,7 @@ use lib.ListN.{length, take, drop}
 use Rattle.field.specs.declared.Guid.{Guid}
 use Rattle.field.specs.Fields.{field, number}
 use Rattle.crc32c.specs.Crc.{crc, zeroed}
-use Rattle.vhdx_entry.specs.Ring.{sectorSize, ring, sectorAt}
+use Rattle.vhdx_entry.specs.Ring.{sectorSize, sectorCount, ring, sectorAt}
 use Rattle.vhdx_entry.specs.declared.Entry.{Entry}
 use Rattle.vhdx_entry.specs.declared.Slot.{Slot}
 use Rattle.vhdx_entry.specs.declared.Slot.the-variants.{Valid, Empty}
@@ -34,9 +34,11 @@ zeroes = 0x6f72657a
 abbrev pub datum : ℕ
 datum = 0x61746164
 
+-- what a header, a descriptor and a data sector begin with
 abbrev pub signature : List ℕ → ℕ
 signature s = field s 0 4
 
+-- a multiple of 4,096
 abbrev pub wholeSectors : ℕ → Bool
 wholeSectors n = eqb (n % sectorSize) 0
 
@@ -186,6 +188,10 @@ contents r = record { size = size r; number = sequenceNumber r; tail = tail r / 
 abbrev pub onlyIf : {A : Type 0} → Bool → A → Option A
 onlyIf true a = some a
 onlyIf false a = none
+
+-- "each starting where the one before ended": where the entry behind the one at sector s starts
+abbrev pub behind : List ℕ → ℕ → ℕ
+behind log s = (s + size (ring log s)) % sectorCount log
 
 -- what the code answers of a position, and of descriptors
 abbrev pub slotOf : Slot → Option Entry

@@ -27,6 +27,10 @@ sectorAt bytes s = take sectorSize (drop (s * sectorSize) bytes)
 abbrev pub advanced : RingPos → ℕ → RingPos
 advanced p by = record { at = (p .at + by) % p .len; len = p .len }
 
+-- where in the log byte n of what starts at a position stands
+abbrev pub offsetIn : RingPos → ℕ → ℕ
+offsetIn p n = advanced p (n / sectorSize) .at * sectorSize + n % sectorSize
+
 -- a position is one of the log's ring
 abbrev pub On : List ℕ → RingPos → Type 0
 On log p = (p .at < p .len) × (length log ≡ p .len * sectorSize)

@@ -1,5 +1,4 @@
 // A descriptor: where it stands in its entry, and what its 32 bytes say.
-use crate::ring;
 use crate::ring::RingPos;
 ghost use mathlib.Core.Path.{_≡_};
 ghost use Prim.Native.Nat.{_+_, _≤_, _<_};
@@ -13,11 +12,9 @@ pub fn at(log: &[u8], pos: RingPos, i: usize) -> &[u8]
     ensures { λ r. ⌜ now r ≡ descriptorOf (ringOf (now (log .entry)) (pos .at)) i ⌝ }
     ensures { λ r. ⌜ length (now r) ≡ 32 ⌝ }
 {
-    let start = 64 + 32 * i;
-    let s = ring::sector(log, pos.advance(start / ring::SECTOR));
-    let from = start % ring::SECTOR;
+    let from = pos.offset(64 + 32 * i);
     let to = from + 32;
-    &s[from..to]
+    &log[from..to]
 }
 
 // The sectors that an entry's header and count descriptors take.

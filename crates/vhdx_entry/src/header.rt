@@ -7,6 +7,7 @@ ghost use Rattle.vhdx_entry.specs.Entry.{signatureRule, checksum as chec
 // "loge" as a little-endian number.
 const LOGE: u32 = 0x65676f6c;
 
+// The sector begins "loge".
 pub fn is_marked(h: &[u8]) -> bool
     requires { ⌜ length (now h) ≡ 4096 ⌝ }
     ensures { λ r. ⌜ r ≡ signatureRule (now (h .entry)) ⌝ }

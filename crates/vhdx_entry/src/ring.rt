@@ -1,8 +1,8 @@
 // The log's ring, in sectors of 4,096 bytes. A position never leaves the ring, and a sector never straddles its end.
 ghost use mathlib.Core.Path.{_≡_};
-ghost use Prim.Native.Nat.{_+_, _*_, _≤_, _<_};
+ghost use Prim.Native.Nat.{_+_, _*_, _%_, _^_, _≤_, _<_};
 ghost use lib.ListN.{length};
-ghost use Rattle.vhdx_entry.specs.Ring.{sectorAt, advanced, On};
+ghost use Rattle.vhdx_entry.specs.Ring.{sectorAt, advanced, offsetIn, On};
 
 pub const SECTOR: usize = 4096;
 
@@ -29,6 +29,15 @@ impl RingPos {
                 len,
             }
         }
+    }
+
+    // Where in the log byte n of what starts at the position stands: the rest of its sector is in the log too.
+    pub fn offset(self, n: usize) -> usize
+        requires { ⌜ (self .at < self .len) × (n < self .len * 4096) × (self .len * 4096 < 2 ^ 64) ⌝ }
+        ensures { λ r. ⌜ r ≡ offsetIn self n ⌝ }
+        ensures { λ r. ⌜ r + 4096 ≤ self .len * 4096 + n % 4096 ⌝ }
+    {
+        self.advance(n / SECTOR).at * SECTOR + n % SECTOR
     }
 }
 

@@ -12,13 +12,13 @@ use Rattle.field.specs.declared.Guid.{Guid}
 use Rattle.extent.specs.Extent.{MiB}
 use Rattle.vhdx_entry.specs.declared.ring.RingPos.{RingPos}
 use Rattle.vhdx_entry.specs.Ring.{sectorAt, sectorCount, ring, On}
-use Rattle.vhdx_entry.specs.Entry.{flushedFileOffset, lastFileOffset, descriptorCount, dataBefore, size, validEntry}
+use Rattle.vhdx_entry.specs.Entry.{flushedFileOffset, lastFileOffset, descriptorCount, dataBefore, size, validEntry, behind}
+use Rattle.vhdx_entry.proofs.Laws.{in-first}
 use Rattle.vhdx_entry.proofs.Clauses.{keeps}
 use Rattle.vhdx_sequence.specs.Linked.{Linked, total}
 use Rattle.vhdx_log.specs.Work.{Descriptor, LogEntry, head, allDescriptors}
 use Rattle.vhdx_log.specs.Plan.{descriptorsFrom, logEntry, entriesFrom}
-use Rattle.vhdx_log.specs.Cursor.{behind, descriptorsOn, Readable, AllReadable, Placed, Walkable}
-use Rattle.vhdx_log.proofs.Parts.{header-field}
+use Rattle.vhdx_log.specs.Cursor.{descriptorsOn, Readable, AllReadable, Placed, Walkable}
 
 -- the cursor at the first descriptor of the entry at sector s and the k after it
 pub chain-descriptors : (log : List ℕ) (s k : ℕ) → allDescriptors (entriesFrom log s k) ≡ descriptorsOn log s 0 (suc k)
@@ -45,8 +45,8 @@ pub head-says : (log : List ℕ) (s k : ℕ) (p : RingPos) (sector : List ℕ) �
     sector ≡ sectorAt log (p .at) →
     (flushedFileOffset sector ≡ head (entriesFrom log s k) .flushed) × (lastFileOffset sector ≡ head (entriesFrom log s k) .last)
 head-says log s k p sector on is at = (
-  ap flushedFileOffset at ∙ header-field log p on 48 8 (omega arith) ∙ sym (ap (λ (e : LogEntry). e .flushed) is),
-  ap lastFileOffset at ∙ header-field log p on 56 8 (omega arith) ∙ sym (ap (λ (e : LogEntry). e .last) is),
+  in-first log (p .len) (p .at) on at 48 8 (omega arith) ∙ sym (ap (λ (e : LogEntry). e .flushed) is),
+  in-first log (p .len) (p .at) on at 56 8 (omega arith) ∙ sym (ap (λ (e : LogEntry). e .last) is),
 )
 
 -- ---- valid entries

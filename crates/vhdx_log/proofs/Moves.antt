@@ -8,15 +8,16 @@ use native.Mathlib.Omega.{arith}
 use lib.ListN.{length}
 use Rattle.vhdx_entry.specs.declared.ring.RingPos.{RingPos}
 use Rattle.vhdx_entry.specs.Ring.{ring, On}
-use Rattle.vhdx_entry.specs.Entry.{descriptor, descriptorStart, descriptorSectors, descriptorCount, isData, zeroLength, fileOffset, dataBefore, dataSector}
+use Rattle.vhdx_entry.specs.Entry.{descriptor, descriptorStart, descriptorSectors, descriptorCount, isData, zeroLength, fileOffset, dataBefore, dataSector, behind}
+use Rattle.vhdx_entry.proofs.Laws.{data-more}
 use Rattle.vhdx_log.specs.declared.run.Source.the-variants.{Zeros}
 use Rattle.vhdx_log.specs.declared.run.Run.{Run}
 use Rattle.vhdx_log.specs.declared.cursor.Cursor.{Cursor}
 use Rattle.vhdx_log.specs.declared.cursor.Move.the-variants.{Entry, Descriptor as Named}
 use Rattle.vhdx_log.specs.Work.{Descriptor, writes, zeros}
 use Rattle.vhdx_log.specs.Plan.{sectorBytes, descriptorOf, descriptorsFrom}
-use Rattle.vhdx_log.specs.Cursor.{descriptorIn, Proper, behind, descriptorsOn, Readable, AllReadable, Within, Placed, Onward}
-use Rattle.vhdx_log.proofs.Parts.{data-more, data-rank, descriptors-fit, zeros-whole, same-length, size-within}
+use Rattle.vhdx_log.specs.Cursor.{descriptorIn, Proper, descriptorsOn, Readable, AllReadable, Within, Placed, Onward}
+use Rattle.vhdx_log.proofs.Parts.{data-rank, descriptors-fit, zeros-whole, same-length, size-within}
 
 -- ---- the descriptors that are left
 

@@ -1,29 +1,22 @@
 -- An entry that a walk reads: where its parts lie in the log, and how long it is.
 -- Assumes nothing.
-use mathlib.Core.Path.{_≡_, sym, ap, _∙_}
+use mathlib.Core.Path.{_≡_, refl, sym, ap, _∙_}
 use mathlib.Core.Bool.{true, false, cond, _&&_, _||_, and-eq-true-iff}
 use mathlib.Core.List.{List}
 use Prim.Native.Nat.{ℕ, zero, suc, _+_, _*_, _/_, _%_, _≤_, _<_}
 use native.Mathlib.Decide.{decLt}
-use native.Mathlib.Numerals.{add-one}
 use native.Mathlib.Omega.{arith}
-use lib.ListN.{length, take, drop}
-use lib.Seq.{drop-drop}
+use lib.ListN.{length}
 use borrow.Author.Tests.{leb-true, eqb-true}
-use Rattle.field.specs.Fields.{field}
 use Rattle.vhdx_entry.specs.declared.ring.RingPos.{RingPos}
 use Rattle.vhdx_entry.specs.Ring.{sectorSize, sectorCount, ring, sectorAt, On}
 use Rattle.vhdx_entry.specs.Entry.{descriptor, descriptorStart, descriptorCount, sequenceNumber, entryLength, isData, isZero, wholeSectors, zeroLength, fileOffset, dataBefore, dataCount, size, descriptorRule, descriptorsRule}
-use Rattle.vhdx_entry.proofs.Laws.{within-take, length-ring, sector-on, first-field, ring-part, every-at}
+use Rattle.vhdx_entry.proofs.Laws.{length-ring, in-first, every-at, data-more}
 use Rattle.vhdx_log.specs.Work.{writes}
 use Rattle.vhdx_log.specs.Plan.{sectorBytes}
 use Rattle.vhdx_log.specs.Cursor.{Readable}
 
 -- ---- data descriptors before others
-
-pub data-more : (r : List ℕ) (i : ℕ) → dataBefore r (i + 1) ≡ dataBefore r i + cond (isData (descriptor r i)) 1 0
-unfolding dataBefore
-data-more r i = rw (add-one i)
 
 data-le : (r : List ℕ) (i m : ℕ) → i ≤ m → dataBefore r i ≤ dataBefore r m
 unfolding dataBefore
@@ -78,34 +71,11 @@ module _ (log : List ℕ) (p : RingPos) (on : On log p) where
   pub same-length : length (ring log (p .at)) ≡ length log
   same-length = length-ring log (p .len) (p .at) (on .1) (on .0)
 
-  -- what the header's sector says is what the entry says
-  pub header-field : (j w : ℕ) → j + w ≤ 4096 → field (sectorAt log (p .at)) j w ≡ field (ring log (p .at)) j w
-  header-field j w h = sym (first-field log (p .len) (p .at) (on .1) (on .0) j w h)
-
   pub size-within : Readable (ring log (p .at)) → size (ring log (p .at)) ≤ p .len
   size-within e = omega (arith, size-fits (ring log (p .at)) e, same-length)
 
   pub size-read : Readable (ring log (p .at)) → entryLength (sectorAt log (p .at)) / 4096 ≡ size (ring log (p .at))
-  size-read e = omega (arith, length-exact (ring log (p .at)) e, header-field 8 4 (omega arith))
-
-  -- descriptor i, read off the log at its place
-  pub descriptor-place : (i : ℕ) → descriptorStart (i + 1) ≤ length log →
-      take 32 (drop ((p .at + (64 + 32 * i) / 4096) % p .len * 4096 + (64 + 32 * i) % 4096) log) ≡ descriptor (ring log (p .at)) i
-  unfolding descriptor sectorAt
-  descriptor-place i h =
-      let start = 64 + 32 * i in
-      let k = start / 4096 in
-      let j = start % 4096 in
-      let m = (p .at + k) % p .len in
-      let same : k * 4096 + j ≡ start = omega arith in
-      sym (within-take 32 j 4096 (drop (m * 4096) log) (omega arith) ∙ ap (take 32) (drop-drop j (m * 4096) log))
-      ∙ sym (ring-part log (p .len) (p .at) (on .1) (on .0) k j 32 (omega arith) (omega arith))
-      ∙ ap (λ (n : ℕ). take 32 (drop n (ring log (p .at)))) same
-
-  -- sector k of the entry, read off the log at its place
-  pub sector-place : (k : ℕ) → k < p .len → take 4096 (drop ((p .at + k) % p .len * 4096) log) ≡ sectorAt (ring log (p .at)) k
-  unfolding sectorAt
-  sector-place k h = sym (sector-on log (p .len) (p .at) (on .1) (on .0) k h)
+  size-read e = omega (arith, length-exact (ring log (p .at)) e, in-first log (p .len) (p .at) on refl 8 4 (omega arith))
 
 -- ---- the bytes of a data descriptor's sector
 

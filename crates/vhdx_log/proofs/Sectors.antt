@@ -18,8 +18,8 @@ use Rattle.vhdx_log.specs.declared.cursor.Move.the-variants.{Done, Entry
 use Rattle.vhdx_log.specs.declared.walk.Walk.{Walk}
 use Rattle.vhdx_log.specs.declared.walk.Loaded.the-variants.{Nothing, At}
 use Rattle.vhdx_log.specs.Work.{Descriptor, Sector, sectorsAt, sectors, end, furthest, lengthLimit}
-use Rattle.vhdx_log.specs.Cursor.{bytesOf, descriptorIn, descriptorsLeft, Placed, Proper, ProperBy, Onward}
-use Rattle.vhdx_log.specs.Walk.{sectorsIn, sectorsLeft, Held, Ready, Settled, walkFrom, Following}
+use Rattle.vhdx_log.specs.Cursor.{bytesOf, Held, descriptorIn, descriptorsLeft, Placed, Proper, ProperBy, Onward}
+use Rattle.vhdx_log.specs.Walk.{sectorsIn, sectorsLeft, Ready, Settled, walkFrom, Following}
 use Rattle.vhdx_log.proofs.Runs.{run-sectors, run-end, length-sectors}
 
 -- ---- sectors one behind the other
@@ -109,7 +109,7 @@ module _ (log : List ℕ) (w : Walk) where
 
 held-by : (log : List ℕ) (source : Source) (n : ℕ) → ProperBy log source n → Held log source
 held-by log Zeros n p = tt
-held-by log (Data d s) n p = (p .1, p .2)
+held-by log (Data d s) n p = p .1
 
 module _ (log : List ℕ) (c : Cursor) (placed : Placed log c) (bounded : furthest (descriptorsLeft log c) ≤ lengthLimit) where
   pub follows-done : {m : Move} → Onward log c m → m ≡ Done → Following log c Nothing

@@ -13,19 +13,21 @@ use Rattle.vhdx_log.specs.Plan.{logBytes}
 use Rattle.vhdx_log.specs.Cursor.{descriptorsLeft}
 use Rattle.vhdx_log.specs.Walk.{walkFrom, Ready}
 
--- the log's bytes in a buffer whose first n bytes are the image: where the current header says, none without one
+-- the log's bytes in a buffer: where the current header says, none without one
 abbrev pub logBy : HeaderAnswer → List ℕ → List ℕ
 logBy (HeaderRefused c) buffer = []
 logBy (Current h) buffer = logBytes h buffer
 
+-- of the image that is the buffer's first n bytes
 unfoldable pub logOf : List ℕ → ℕ → List ℕ
 logOf buffer n = logBy (currentHeader buffer n) buffer
 
--- with this log
+-- the plan that an answer is, the log's bytes being these
 abbrev pub planIn : List ℕ → Answer → Plan
 planIn log (Refused c) = refused c
 planIn log (Apply w) = apply (w .length) (sectors (descriptorsLeft log (w .cursor)))
 
+-- the count that is answered
 abbrev pub countOf : Answer → ℕ
 countOf (Refused c) = 0
 countOf (Apply w) = w .count
@@ -41,5 +43,6 @@ pub record Stands (log : List ℕ) (answer : Answer) (p : Plan) : Type 0 where
   pub counted : countOf answer ≡ count p
   pub ready : ReadyIn log answer
 
+-- the plan that an answer is, of the image that is the buffer's first n bytes
 abbrev pub planOf : List ℕ → ℕ → Answer → Plan
 planOf buffer n answer = planIn (logOf buffer n) answer

@@ -8,7 +8,7 @@ use Prim.Native.Nat.{ℕ, zero, suc, _+_, _-_, _*_, _%_, _≤_, _<_}
 use lib.ListN.{length, take, drop}
 use Rattle.extent.specs.Extent.{MiB}
 use Rattle.vhdx_entry.specs.Ring.{sectorSize, sectorCount, ring, On}
-use Rattle.vhdx_entry.specs.Entry.{dataBefore, descriptorCount, size, fitsRule, entryLengthRule, descriptorsRule}
+use Rattle.vhdx_entry.specs.Entry.{dataBefore, descriptorCount, behind, fitsRule, entryLengthRule, descriptorsRule}
 use Rattle.vhdx_log.specs.declared.run.Source.{Source}
 use Rattle.vhdx_log.specs.declared.run.Source.the-variants.{Zeros, Data}
 use Rattle.vhdx_log.specs.declared.run.Run.{Run}
@@ -30,23 +30,25 @@ abbrev pub descriptorBy : List ℕ → Source → ℕ → ℕ → Descriptor
 descriptorBy log Zeros offset n = zeros offset n
 descriptorBy log (Data descriptor sector) offset n = writes offset (bytesOf log (Data descriptor sector))
 
+-- of a run
 abbrev pub descriptorIn : List ℕ → Run → Descriptor
 descriptorIn log run = descriptorBy log (run .source) (run .offset) (run .length)
+
+-- the bytes of a source are in the log
+abbrev pub Held : List ℕ → Source → Type 0
+Held log Zeros = Unit {0}
+Held log (Data descriptor sector) = (descriptor + 32 ≤ length log) × (sector + sectorSize ≤ length log)
 
 -- whole sectors, and just one where the log holds its bytes
 abbrev pub ProperBy : List ℕ → Source → ℕ → Type 0
 ProperBy log Zeros n = n % sectorSize ≡ 0
-ProperBy log (Data descriptor sector) n =
-    (n ≡ sectorSize) × (descriptor + 32 ≤ length log) × (sector + sectorSize ≤ length log)
+ProperBy log (Data descriptor sector) n = (n ≡ sectorSize) × Held log (Data descriptor sector)
 
+-- of a run
 abbrev pub Proper : List ℕ → Run → Type 0
 Proper log run = ProperBy log (run .source) (run .length)
 
 -- ---- cursors
-
--- where the entry after the one at sector s starts
-abbrev pub behind : List ℕ → ℕ → ℕ
-behind log s = (s + size (ring log s)) % sectorCount log
 
 -- the descriptors of `left` entries, from number `index` of the one at sector s on
 unfoldable pub descriptorsOn : List ℕ → ℕ → ℕ → ℕ → List Descriptor
@@ -54,6 +56,7 @@ descriptorsOn log s index zero = []
 descriptorsOn log s index (suc left) =
     descriptorsFrom (ring log s) index (descriptorCount (ring log s) - index) ++ descriptorsOn log (behind log s) 0 left
 
+-- those that a cursor has before it
 abbrev pub descriptorsLeft : List ℕ → Cursor → List Descriptor
 descriptorsLeft log c = descriptorsOn log (c .pos .at) (c .index) (c .left)
 
@@ -74,6 +77,7 @@ pub record Within (log : List ℕ) (c : Cursor) : Type 0 where
   pub within : c .index ≤ descriptorCount (ring log (c .pos .at))
   pub rank : c .data ≡ dataBefore (ring log (c .pos .at)) (c .index)
 
+-- what a move relies on: the cursor is in an entry, if any is left, and each of those that are left can be read
 pub record Placed (log : List ℕ) (c : Cursor) : Type 0 where
   pub here : 0 < c .left → Within log c
   pub readable : AllReadable log (c .pos .at) (c .left)

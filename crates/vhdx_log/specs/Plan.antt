@@ -4,7 +4,7 @@
 use mathlib.Core.Bool.{cond}
 use mathlib.Core.List.{List, [], _∷_, _++_}
 use mathlib.Core.Option.{Option, none, some}
-use Prim.Native.Nat.{ℕ, zero, suc, _+_, _%_}
+use Prim.Native.Nat.{ℕ, zero, suc, _+_}
 use lib.Dec.{eqb}
 use lib.ListN.{length, take, drop}
 use Rattle.field.specs.Fields.{number}
@@ -12,8 +12,8 @@ use Rattle.vhdx_header.specs.declared.Header.{Header}
 use Rattle.vhdx_header.specs.declared.Answer.{Answer}
 use Rattle.vhdx_header.specs.declared.Answer.the-variants.{Refused, Current}
 use Rattle.vhdx_header.specs.Current.{currentHeader}
-use Rattle.vhdx_entry.specs.Ring.{sectorCount, ring}
-use Rattle.vhdx_entry.specs.Entry.{descriptor, isData, trailingBytes, leadingBytes, zeroLength, fileOffset, dataBefore, dataSector, descriptorCount, flushedFileOffset, lastFileOffset, size}
+use Rattle.vhdx_entry.specs.Ring.{ring}
+use Rattle.vhdx_entry.specs.Entry.{descriptor, isData, trailingBytes, leadingBytes, zeroLength, fileOffset, dataBefore, dataSector, descriptorCount, flushedFileOffset, lastFileOffset, behind}
 use Rattle.vhdx_sequence.specs.declared.Sequence.{Sequence}
 use Rattle.vhdx_sequence.specs.Sequence.{activeSequence}
 use Rattle.vhdx_log.specs.Work.{Descriptor, writes, zeros, LogEntry, Entries, only, then, Extent, Plan, refused, work, applyWithin}
@@ -33,6 +33,7 @@ unfoldable pub descriptorsFrom : List ℕ → ℕ → ℕ → List Descriptor
 descriptorsFrom r i zero = []
 descriptorsFrom r i (suc m) = descriptorOf r i ∷ descriptorsFrom r (i + 1) m
 
+-- what the work takes of the entry r
 abbrev pub logEntry : List ℕ → LogEntry
 logEntry r =
     record { flushed = flushedFileOffset r; last = lastFileOffset r; descriptors = descriptorsFrom r 0 (descriptorCount r) }
@@ -40,12 +41,13 @@ logEntry r =
 -- the entry at sector s of the log and the k after it, "each starting where the one before ended"
 unfoldable pub entriesFrom : List ℕ → ℕ → ℕ → Entries
 entriesFrom log s zero = only (logEntry (ring log s))
-entriesFrom log s (suc k) = then (logEntry (ring log s)) (entriesFrom log ((s + size (ring log s)) % sectorCount log) k)
+entriesFrom log s (suc k) = then (logEntry (ring log s)) (entriesFrom log (behind log s) k)
 
 -- the log's bytes in a buffer
 unfoldable pub logBytes : Header → List ℕ → List ℕ
 logBytes h buffer = take (h .«log_length») (drop (h .«log_offset») buffer)
 
+-- where that is
 abbrev pub extentOf : Header → Extent
 extentOf h = record { offset = h .«log_offset»; length = h .«log_length» }
 

@@ -6,8 +6,7 @@ use mathlib.Core.Path.{_≡_}
 use Prim.Native.Nat.{ℕ, _+_, _/_, _≤_, _<_}
 use lib.ListN.{length}
 use Rattle.vhdx_entry.specs.Ring.{sectorSize}
-use Rattle.vhdx_log.specs.declared.run.Source.{Source}
-use Rattle.vhdx_log.specs.declared.run.Source.the-variants.{Zeros, Data}
+use Rattle.vhdx_log.specs.declared.run.Source.the-variants.{Zeros}
 use Rattle.vhdx_log.specs.declared.run.Run.{Run}
 use Rattle.vhdx_log.specs.declared.cursor.Cursor.{Cursor}
 use Rattle.vhdx_log.specs.declared.walk.Walk as walk
@@ -17,7 +16,7 @@ use Rattle.vhdx_log.specs.declared.walk.Next.the-variants.{Sector as Her
 use Rattle.vhdx_log.specs.declared.walk.Loaded.{Loaded}
 use Rattle.vhdx_log.specs.declared.walk.Loaded.the-variants.{Nothing, At}
 use Rattle.vhdx_log.specs.Work.{Sector, sectorsAt, sectors, furthest, lengthLimit}
-use Rattle.vhdx_log.specs.Cursor.{bytesOf, descriptorsLeft, Placed}
+use Rattle.vhdx_log.specs.Cursor.{bytesOf, Held, descriptorsLeft, Placed}
 
 -- the sectors of a run
 abbrev pub sectorsIn : List ℕ → Run → List Sector
@@ -35,15 +34,12 @@ walkFrom c = record { run = record { offset = 0; length = 0; source = Zeros }; c
 abbrev pub sectorOf : List ℕ → SectorWrite → Sector
 sectorOf log s = record { offset = s .offset; bytes = bytesOf log (s .source) }
 
+-- the answer: a sector, or none left
 abbrev pub nextOf : List ℕ → Next → Option Sector
 nextOf log (Here s) = some (sectorOf log s)
 nextOf log End = none
 
--- the bytes of a source are in the log
-abbrev pub Held : List ℕ → Source → Type 0
-Held log Zeros = Unit {0}
-Held log (Data descriptor sector) = (descriptor + 32 ≤ length log) × (sector + sectorSize ≤ length log)
-
+-- the answered sector's bytes are in the log
 abbrev pub HeldNext : List ℕ → Next → Type 0
 HeldNext log (Here s) = Held log (s .source)
 HeldNext log End = Unit {0}

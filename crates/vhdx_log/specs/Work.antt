@@ -46,6 +46,7 @@ unfoldable pub sectorsAt : ℕ → ℕ → List ℕ → List Sector
 sectorsAt zero offset bytes = []
 sectorsAt (suc k) offset bytes = record { offset = offset; bytes = bytes } ∷ sectorsAt k (offset + sectorSize) bytes
 
+-- a sector of zeros
 unfoldable pub zeroSector : List ℕ
 zeroSector = replicate sectorSize 0
 
@@ -64,6 +65,7 @@ abbrev pub end : Descriptor → ℕ
 end (writes offset bytes) = offset + sectorSize
 end (zeros offset n) = cond (eqb n 0) 0 (offset + n)
 
+-- the greatest of them
 abbrev pub furthest : List Descriptor → ℕ
 furthest [] = 0
 furthest (d ∷ ds) = max (end d) (furthest ds)
@@ -81,6 +83,7 @@ pub record Extent : Type 0 where
 abbrev pub lies : Extent → ℕ → ℕ → Bool
 lies log offset n = shares offset n 0 MiB || shares offset n (log .offset) (log .length)
 
+-- some sector does
 abbrev pub someLies : Extent → List Sector → Bool
 someLies log [] = false
 someLies log (s ∷ ss) = lies log (s .offset) sectorSize || someLies log ss

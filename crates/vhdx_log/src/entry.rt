@@ -4,9 +4,10 @@ use vhdx_entry::ring;
 use vhdx_entry::ring::RingPos;
 ghost use mathlib.Core.Path.{_≡_};
 ghost use Rattle.vhdx_entry.specs.Ring.{ring as ringOf, On};
+ghost use Rattle.vhdx_entry.specs.Entry.{behind};
 ghost use Rattle.vhdx_log.specs.Work.{head as headOf};
 ghost use Rattle.vhdx_log.specs.Plan.{logEntry, entriesFrom};
-ghost use Rattle.vhdx_log.specs.Cursor.{Readable, AllReadable, behind};
+ghost use Rattle.vhdx_log.specs.Cursor.{Readable, AllReadable};
 
 pub fn next(log: &[u8], pos: RingPos) -> RingPos
     requires { ⌜ On (now log) pos × Readable (ringOf (now log) (pos .at)) ⌝ }

@@ -32,16 +32,14 @@ pub fn of_data(log: &[u8], pos: RingPos, count: usize, index: usize, rank: usize
     ensures { λ r. ⌜ descriptorIn (now (log .entry)) r ≡ writes (fileOffset (descriptorBytes (ringOf (now (log .entry)) (pos .at)) index)) (sectorBytes (descriptorBytes (ringOf (now (log .entry)) (pos .at)) index) (dataSector (ringOf (now (log .entry)) (pos .at)) rank)) ⌝ }
     ensures { λ r. ⌜ Proper (now (log .entry)) r ⌝ }
 {
-    let start = 64 + 32 * index;
-    let holder = pos.advance(start / ring::SECTOR);
-    let place = holder.at * ring::SECTOR + start % ring::SECTOR;
-    let sector = pos.advance(descriptor::sectors(count) + rank);
+    let place = pos.offset(64 + 32 * index);
+    let sector = pos.offset((descriptor::sectors(count) + rank) * ring::SECTOR);
     Run {
         offset: descriptor::file_offset(descriptor::at(log, pos, index)),
         length: 4096,
         source: Source::Data {
             descriptor: place,
-            sector: sector.at * ring::SECTOR,
+            sector,
         },
     }
 }

@@ -1,4 +1,4 @@
--- Log sequences, and the active one of them (document 01, "The log"). Places in the log are counted in sectors.
+-- Log sequences, and the active one of them (document 01, "The log"). Offsets in the log are counted in sectors.
 -- Assumes nothing.
 use mathlib.Core.Bool.{Bool, cond, _&&_, _||_}
 use mathlib.Core.List.{List}

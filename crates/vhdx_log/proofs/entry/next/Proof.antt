@@ -5,8 +5,7 @@ use Prim.Native.Nat.{ℕ, _+_, _*_, _/_, _%_}
 use native.Mathlib.Omega.{arith}
 use Rattle.vhdx_entry.specs.declared.ring.RingPos.{RingPos}
 use Rattle.vhdx_entry.specs.Ring.{ring}
-use Rattle.vhdx_entry.specs.Entry.{entryLength, size}
-use Rattle.vhdx_log.specs.Cursor.{behind}
+use Rattle.vhdx_entry.specs.Entry.{entryLength, size, behind}
 use Rattle.vhdx_log.proofs.Parts.{same-count, size-within, size-read}
 use borrow.Author.Needs.{needs}
 use Rattle.vhdx_log.proofs.entry.next.Statement.{statement}

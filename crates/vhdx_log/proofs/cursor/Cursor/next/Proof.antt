@@ -1,11 +1,11 @@
 -- `vhdx_log::cursor::Cursor::next` meets its contract.
 -- Assumes nothing.
-use mathlib.Core.Path.{_≡_, ap, _∙_}
+use mathlib.Core.Path.{_≡_, _∙_}
 use Prim.Native.Nat.{_<_}
 use native.Mathlib.Omega.{arith}
 use Rattle.vhdx_entry.specs.Ring.{ring}
 use Rattle.vhdx_entry.specs.Entry.{descriptorCount}
-use Rattle.vhdx_log.proofs.Parts.{header-field}
+use Rattle.vhdx_entry.proofs.Laws.{in-first}
 use Rattle.vhdx_log.proofs.Moves.{on-done, stands, reads as readable, to-entry}
 use borrow.Author.Needs.{needs}
 use Rattle.vhdx_log.proofs.cursor.Cursor.next.Statement.{statement}
@@ -26,8 +26,7 @@ descriptor-requires c κs =
       s .pre,
       more,
       c .before .before .descriptor-count .ensures .0
-          ∙ ap descriptorCount (c .before .before .before .sector .ensures .0)
-          ∙ header-field log (a .self .pos) (stands log (a .self) (s .pre) more .on) 24 4 (omega arith),
+          ∙ in-first log (a .self .pos .len) (a .self .pos .at) (stands log (a .self) (s .pre) more .on) (c .before .before .before .sector .ensures .0) 24 4 (omega arith),
       c .before .before .descriptor-count .ensures .1,
       c .if2 .taken,
     )
@@ -51,8 +50,7 @@ returns-3 c =
     let more : 0 < a .self .left = omega arith in
     let count : c .before .before .before .descriptor-count .result ≡ descriptorCount (ring log (a .self .pos .at)) =
     c .before .before .before .descriptor-count .ensures .0
-    ∙ ap descriptorCount (c .before .before .before .before .sector .ensures .0)
-    ∙ header-field log (a .self .pos) (stands log (a .self) (s .pre) more .on) 24 4 (omega arith) in
+    ∙ in-first log (a .self .pos .len) (a .self .pos .at) (stands log (a .self) (s .pre) more .on) (c .before .before .before .before .sector .ensures .0) 24 4 (omega arith) in
     to-entry log (a .self) (s .pre) more (c .next .result) (c .next .ensures .0) (c .next .ensures .1) (omega arith)
 
 pub next-spec : {M : Type 1} → statement M
