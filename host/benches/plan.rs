@@ -2,8 +2,8 @@
 //! same run. Prints the ratios; exits with status 1 where one is above the limit.
 use shrunvaki_host::api::{self, Plan};
 use shrunvaki_host::image::{seal, Descriptor, Entry, Image, GUID, MIB, SECTOR};
+use shrunvaki_host::measure::{crc_pass, time};
 use std::hint::black_box;
-use std::time::{Duration, Instant};
 
 const LOG: usize = 64 * MIB;
 const SECTORS: usize = LOG / SECTOR;
@@ -74,25 +74,8 @@ fn greedy_headers() -> Image {
     image
 }
 
-/// The best of some runs: what else the machine does only adds.
-fn time<T>(mut work: impl FnMut() -> T) -> Duration {
-    (0..5)
-        .map(|_| {
-            let start = Instant::now();
-            black_box(work());
-            start.elapsed()
-        })
-        .min()
-        .expect("some runs")
-}
-
 fn main() {
-    let bytes: Vec<u8> = (0..LOG).map(|i| (i ^ (i >> 8)) as u8).collect();
-    let pass = time(|| api::crc32c(black_box(&bytes)));
-    println!(
-        "one pass of crc32c over 64 MiB: {:.1} ms",
-        pass.as_secs_f64() * 1e3
-    );
+    let pass = crc_pass();
     let length = (LOG + 3 * MIB) as u64;
     let applied = |count| Plan::Apply { length, count };
     let cases: [(&str, Build, Plan); 4] = [

@@ -15,6 +15,13 @@ extern "C" {
         k: u64,
         answer: *mut u64,
     ) -> u64;
+    fn shrunvaki_bench_tables(
+        image: *const u8,
+        length: usize,
+        log_offset: u64,
+        log_length: u64,
+        answer: *mut u64,
+    ) -> u64;
 }
 
 /// What the plan of a log's work is: a refusal's number, or the final length and the count of sectors to write.
@@ -36,6 +43,27 @@ pub enum Sector {
         descriptor: u64,
         sector: u64,
     },
+}
+
+/// Where a part of a file lies.
+#[derive(Debug, PartialEq, Eq, Clone, Copy, Default)]
+pub struct Extent {
+    pub offset: u64,
+    pub length: u64,
+}
+
+/// What the tables say of a disk.
+#[derive(Debug, PartialEq, Eq, Clone, Copy, Default)]
+pub struct Facts {
+    pub logical_sector_size: u64,
+    pub physical_sector_size: u64,
+    pub block_size: u64,
+    pub disk_size: u64,
+    pub has_parent: bool,
+    pub disk_id: [u8; 16],
+    pub bat: Extent,
+    pub metadata: Extent,
+    pub locator: Extent,
 }
 
 pub fn crc32c(bytes: &[u8]) -> u32 {
@@ -79,5 +107,47 @@ pub fn sector(buffer: &[u8], length: u64, k: u64) -> Option<Sector> {
             descriptor: answer[1],
             sector: answer[2],
         }),
+    }
+}
+
+/// The facts of an image whose log is here and applied, or the refusal's number. With a refusal come facts that are all zero,
+/// which this asserts.
+pub fn tables(image: &[u8], log: Extent) -> Result<Facts, u64> {
+    // not zero before, so that a zero is one that was written
+    let mut answer = [u64::MAX; 13];
+    // SAFETY: as above; of the answer 13 numbers are written, which it has.
+    let refusal = unsafe {
+        shrunvaki_bench_tables(
+            image.as_ptr(),
+            image.len(),
+            log.offset,
+            log.length,
+            answer.as_mut_ptr(),
+        )
+    };
+    let mut disk_id = [0; 16];
+    disk_id[..8].copy_from_slice(&answer[5].to_le_bytes());
+    disk_id[8..].copy_from_slice(&answer[6].to_le_bytes());
+    let extent = |at: usize| Extent {
+        offset: answer[at],
+        length: answer[at + 1],
+    };
+    let facts = Facts {
+        logical_sector_size: answer[0],
+        physical_sector_size: answer[1],
+        block_size: answer[2],
+        disk_size: answer[3],
+        has_parent: answer[4] != 0,
+        disk_id,
+        bat: extent(7),
+        metadata: extent(9),
+        locator: extent(11),
+    };
+    match refusal {
+        0 => Ok(facts),
+        _ => {
+            assert_eq!(facts, Facts::default(), "facts beside refusal {refusal}");
+            Err(refusal)
+        }
     }
 }

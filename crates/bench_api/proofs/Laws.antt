@@ -19,7 +19,7 @@ use Rattle.vhdx_log.specs.declared.walk.SectorWrite.{SectorWrite}
 use Rattle.vhdx_log.specs.declared.walk.Next.{Next}
 use Rattle.vhdx_log.specs.declared.walk.Next.the-variants.{Sector as Here, End}
 use Rattle.vhdx_log.proofs.Sectors.{left-from}
-use Rattle.bench_api.specs.{refusal, figuresIn, sectorsOf, sourceKind, sourceIn, Answered}
+use Rattle.bench_api.specs.Plans.{refusal, figuresIn, sectorsOf, sourceKind, sourceIn, Answered}
 
 module _ (log : List ℕ) (p : Plan) (r : Answer) (same : planIn log r ≡ p) (counted : countOf r ≡ count p) (ready : ReadyIn log r) where
   pub refused-figures : {c : ℕ} (l : List ℕ) → r ≡ Refused c → (c ≡ refusal p) × (set (set l 0 0) 1 0 ≡ figuresIn p l)

@@ -1,5 +1,7 @@
 // What this project's own tests and benchmarks link: the checksum, the plan of a log's work in figures, and one of its
-// sectors. Not for other programs.
+// sectors; in `tables` the facts of an image. Not for other programs.
+pub mod tables;
+
 use vhdx_log::Answer;
 use vhdx_log::run::Source;
 use vhdx_log::walk;
@@ -9,7 +11,7 @@ ghost use lib.ListN.{getElem?};
 ghost use Rattle.crc32c.specs.Crc.{crc};
 ghost use Rattle.vhdx_log.specs.Plan.{plan};
 ghost use Rattle.vhdx_log.specs.Answers.{logOf};
-ghost use Rattle.bench_api.specs.{refusal, figuresIn, sectorsOf, Answered};
+ghost use Rattle.bench_api.specs.Plans.{refusal, figuresIn, sectorsOf, Answered};
 
 #[no_mangle]
 pub extern "C" fn shrunvaki_bench_crc32c(bytes: &[u8]) -> u32

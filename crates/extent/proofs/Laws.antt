@@ -77,6 +77,13 @@ module _ (a m b n : ℕ) where
       back : shares a m b n ≡ true → (ltb 0 m && ltb (a - b) n) ≡ true
       back e = let s = sharing e in rw (lt-ltb 0 m (s .0), lt-ltb (a - b) n (omega arith))
 
+-- it does not matter which is named first
+pub shares-symmetric : (a m b n : ℕ) → shares a m b n ≡ shares b n a m
+shares-symmetric a m b n = iff (shares a m b n) (shares b n a m) (turned a m b n) (turned b n a m)
+  where
+    turned : (a m b n : ℕ) → shares a m b n ≡ true → shares b n a m ≡ true
+    turned a m b n h = let s = sharing a m b n h in share b n a m (s .1) (s .0) (omega arith) (s .2)
+
 -- a range in two parts: one of them shares a byte exactly when the whole does
 pub shares-split : (a m k b n : ℕ) → (shares a m b n || shares (a + m) k b n) ≡ shares a (m + k) b n
 shares-split a m k b n = iff (shares a m b n || shares (a + m) k b n) (shares a (m + k) b n) there back

@@ -1,7 +1,7 @@
 -- The clauses of a valid entry, put together as the code tests them: what a failed test says of the whole, what all of them
 -- together say, and what a valid entry keeps to.
 -- Assumes nothing.
-use mathlib.Core.Path.{_≡_, refl, sym, ap, ap₂, _∙_}
+use mathlib.Core.Path.{_≡_, sym, ap, ap₂, _∙_}
 use mathlib.Core.Bool.{Bool, true, false, _&&_, and-eq-true-iff, and-false, and-assoc}
 use mathlib.Core.List.{List}
 use mathlib.Core.Option.{none, some}
@@ -10,23 +10,17 @@ use native.Mathlib.Omega.{arith}
 use lib.Dec.{eqb}
 use lib.ListN.{length, take}
 use borrow.Author.Tests.{eq-eqb, ne-eqb, lt-leb, le-leb, leb-true}
+use Rattle.decision.specs.Bounded.{every, onlyIf}
+use Rattle.decision.proofs.Laws.{onlyIf-none, onlyIf-some}
 use Rattle.field.specs.declared.Guid.{Guid}
 use Rattle.field.specs.Fields.{number}
 use Rattle.crc32c.specs.Crc.{crc, zeroed}
 use Rattle.vhdx_entry.specs.Ring.{ring, sectorAt}
-use Rattle.vhdx_entry.specs.Entry.{checksum, entryLength, tail, sequenceNumber, descriptorCount, descriptorSectors, descriptor, dataBefore, dataCount, size, every, descriptorRule, dataSectorRule, headerRule, signatureRule, guidRule, tailRule, numberRule, fitsRule, descriptorsRule, entryLengthRule, dataSectorsRule, checksumRule, validEntry, onlyIf, contents, entryAt, tallyOf}
+use Rattle.vhdx_entry.specs.Entry.{checksum, entryLength, tail, sequenceNumber, descriptorCount, descriptorSectors, descriptor, dataBefore, dataCount, size, descriptorRule, dataSectorRule, headerRule, signatureRule, guidRule, tailRule, numberRule, fitsRule, descriptorsRule, entryLengthRule, dataSectorsRule, checksumRule, validEntry, contents, entryAt, tallyOf}
 use Rattle.vhdx_entry.specs.declared.Entry.{Entry}
 use Rattle.vhdx_entry.specs.declared.body.Tally.{Tally}
 use Rattle.vhdx_entry.specs.declared.body.Tally.the-variants.{Whole, Broken}
 use Rattle.vhdx_entry.proofs.Laws.{length-ring, first-field}
-
-pub onlyIf-none : {A : Type 0} (b : Bool) (a : A) → none ≡ onlyIf b a → b ≡ false
-onlyIf-none true a h = let z : _≡_ {A = ℕ} 0 1 = cc in absurd (omega arith)
-onlyIf-none false a h = refl
-
-pub onlyIf-some : {A : Type 0} (b : Bool) (a : A) {x : A} → some x ≡ onlyIf b a → (b ≡ true) × (x ≡ a)
-onlyIf-some true a h = (refl, cc)
-onlyIf-some false a h = let z : _≡_ {A = ℕ} 0 1 = cc in absurd (omega arith)
 
 module _ (r : List ℕ) where
   rules-are : {count number : ℕ} → count ≡ descriptorCount r → number ≡ sequenceNumber r

@@ -2,7 +2,7 @@
 -- sector is that sector's. And laws of loops over descriptors and sectors.
 -- Assumes nothing.
 use mathlib.Core.Path.{_≡_, refl, sym, ap, _∙_}
-use mathlib.Core.Bool.{Bool, true, false, cond, _&&_, and-eq-true-iff, and-false}
+use mathlib.Core.Bool.{cond}
 use mathlib.Core.List.{List, [], _∷_, _++_}
 use Prim.Native.Nat.{ℕ, zero, suc, _+_, _-_, _*_, _/_, _%_, _≤_, _<_}
 use native.Mathlib.Decide.{decLt}
@@ -14,7 +14,7 @@ use lib.Seq.{length-take-le, take-take, drop-drop, take-append-le, drop-append-l
 use Rattle.field.specs.Fields.{le, field}
 use Rattle.vhdx_entry.specs.Ring.{ring, sectorAt, offsetIn, On}
 use Rattle.vhdx_entry.specs.declared.ring.RingPos.{RingPos}
-use Rattle.vhdx_entry.specs.Entry.{every, dataBefore, isData, descriptor}
+use Rattle.vhdx_entry.specs.Entry.{dataBefore, isData, descriptor}
 
 -- once round: a sector of the second lap is the same sector of the first
 pub mod-round : (n s c : ℕ) → s < n → c ≡ s + n → c % n ≡ s
@@ -40,33 +40,6 @@ field-of-sector s k j w h = field-in s (k * 4096) 4096 j w h
 pub sector-next : (r : List ℕ) (k : ℕ) → take ((k + 1) * 4096) r ≡ take (k * 4096) r ++ sectorAt r k
 unfolding sectorAt
 sector-next r k = ap (λ (n : ℕ). take n r) {x = (k + 1) * 4096} {y = k * 4096 + 4096} (omega arith) ∙ take-add (k * 4096) 4096 r
-
--- ---- what holds of 0, .., m - 1
-
-pub every-more : (f : ℕ → Bool) (i : ℕ) → every i f ≡ true → f i ≡ true → every (i + 1) f ≡ true
-unfolding every
-every-more f i p q = rw (add-one i, p, q)
-
-pub every-end : (f : ℕ → Bool) (i m : ℕ) → i ≤ m → m ≤ i → every i f ≡ true → every m f ≡ true
-every-end f i m a b h = ap (λ (x : ℕ). every x f) {x = m} {y = i} (omega arith) ∙ h
-
-pub every-not : (f : ℕ → Bool) (i m : ℕ) → i < m → f i ≡ false → every m f ≡ false
-unfolding every
-every-not f i zero b h = absurd (omega arith)
-every-not f i (suc m) b h = go (decLt i m) (λ c. every-not f i m c h)
-  where
-    go : Dec (i < m) → (i < m → every m f ≡ false) → (every m f && f m) ≡ false
-    go (yes c) r = ap (λ (x : Bool). x && f m) (r c)
-    go (no c) r = ap (λ (x : Bool). every m f && x) (ap f {x = m} {y = i} (omega arith) ∙ h) ∙ and-false (every m f)
-
-pub every-at : (f : ℕ → Bool) (m i : ℕ) → every m f ≡ true → i < m → f i ≡ true
-unfolding every
-every-at f zero i h b = absurd (omega arith)
-every-at f (suc m) i h b = go (decLt i m) (every-at f m i) (and-eq-true-iff (every m f) (f m) .0 h)
-  where
-    go : Dec (i < m) → (every m f ≡ true → i < m → f i ≡ true) → (every m f ≡ true) × (f m ≡ true) → f i ≡ true
-    go (yes c) rec p = rec (p .0) c
-    go (no c) rec p = ap f {x = i} {y = m} (omega arith) ∙ p .1
 
 pub data-more : (r : List ℕ) (i : ℕ) → dataBefore r (i + 1) ≡ dataBefore r i + cond (isData (descriptor r i)) 1 0
 unfolding dataBefore

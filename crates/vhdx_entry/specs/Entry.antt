@@ -1,12 +1,13 @@
 -- A valid entry of the log, clause by clause (document 01, "The log"; MS-VHDX 2.3.1). An entry is judged on r, the ring
 -- read from its start once round: its bytes are the first of r.
 -- Assumes nothing.
-use mathlib.Core.Bool.{Bool, true, false, cond, _&&_, _||_}
+use mathlib.Core.Bool.{Bool, cond, _&&_, _||_}
 use mathlib.Core.List.{List}
 use mathlib.Core.Option.{Option, none, some}
 use Prim.Native.Nat.{ℕ, zero, suc, _+_, _-_, _*_, _/_, _%_, _^_}
 use lib.Dec.{eqb, leb, ltb}
 use lib.ListN.{length, take, drop}
+use Rattle.decision.specs.Bounded.{every, onlyIf}
 use Rattle.field.specs.declared.Guid.{Guid}
 use Rattle.field.specs.Fields.{field, number}
 use Rattle.crc32c.specs.Crc.{crc, zeroed}
@@ -118,11 +119,6 @@ dataSector r k = sectorAt r (descriptorSectors (descriptorCount r) + k)
 abbrev pub size : List ℕ → ℕ
 size r = descriptorSectors (descriptorCount r) + dataCount r
 
--- f holds of 0, .., m - 1
-unfoldable pub every : ℕ → (ℕ → Bool) → Bool
-every zero f = true
-every (suc m) f = every m f && f m
-
 -- ---- the clauses
 
 -- "header, 64 bytes: "loge""
@@ -183,11 +179,6 @@ validEntry guid r =
 -- what log sequences are made by: its length, its number, its Tail; length and Tail in sectors
 abbrev pub contents : List ℕ → Entry
 contents r = record { size = size r; number = sequenceNumber r; tail = tail r / sectorSize }
-
--- a, if the test holds
-abbrev pub onlyIf : {A : Type 0} → Bool → A → Option A
-onlyIf true a = some a
-onlyIf false a = none
 
 -- "each starting where the one before ended": where the entry behind the one at sector s starts
 abbrev pub behind : List ℕ → ℕ → ℕ

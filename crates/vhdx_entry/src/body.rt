@@ -8,9 +8,10 @@ ghost use mathlib.Core.Path.{_≡_};
 ghost use mathlib.Core.Bool.{cond, _&&_};
 ghost use Prim.Native.Nat.{_+_, _*_, _≤_, _<_};
 ghost use lib.ListN.{length, take};
+ghost use Rattle.decision.specs.Bounded.{every, onlyIf};
 ghost use Rattle.crc32c.specs.Crc.{crc, zeroed};
 ghost use Rattle.vhdx_entry.specs.Ring.{sectorSize, ring as ringOf, sectorAt, On};
-ghost use Rattle.vhdx_entry.specs.Entry.{descriptor as descriptorOf, descriptorStart, isData, descriptorCount, sequenceNumber, dataBefore, size as sizeOf, every, descriptorRule, descriptorsRule, dataSectorRule, dataSectorsRule, fitsRule, entryLengthRule, checksumRule, onlyIf, tallyOf};
+ghost use Rattle.vhdx_entry.specs.Entry.{descriptor as descriptorOf, descriptorStart, isData, descriptorCount, sequenceNumber, dataBefore, size as sizeOf, descriptorRule, descriptorsRule, dataSectorRule, dataSectorsRule, fitsRule, entryLengthRule, checksumRule, tallyOf};
 
 // Of descriptors that should keep their rule: how many were asked for, or that one breaks it.
 pub enum Tally {

@@ -11,6 +11,7 @@ use lib.Dec.{leb, eqb}
 use lib.ListN.{length}
 use borrow.Author.Tests.{leb-true, le-leb}
 use Rattle.field.specs.Fields.{number}
+use Rattle.extent.specs.declared.Extent.{Extent}
 use Rattle.vhdx_header.specs.declared.Header.{Header}
 use Rattle.vhdx_header.specs.declared.Answer.{Answer}
 use Rattle.vhdx_header.specs.declared.Answer.the-variants.{Refused, Current}
@@ -18,7 +19,7 @@ use Rattle.vhdx_header.specs.Current.{firstMiB, currentHeader}
 use Rattle.vhdx_header.proofs.Laws.{read-again}
 use Rattle.vhdx_sequence.specs.declared.Sequence.{Sequence}
 use Rattle.vhdx_sequence.specs.Sequence.{activeSequence}
-use Rattle.vhdx_log.specs.Work.{Entries, head, allDescriptors, Sector, sectors, finalLength, Extent, someLies, Plan, apply, check, lengthLimit, applyWithin, work}
+use Rattle.vhdx_log.specs.Work.{Entries, head, allDescriptors, Sector, sectors, finalLength, someLies, Plan, apply, check, lengthLimit, applyWithin, work}
 use Rattle.vhdx_log.specs.Plan.{entriesFrom, logBytes, extentOf, planSequence, planLog, planHeader, plan}
 
 -- a plan that is no refusal passed the test

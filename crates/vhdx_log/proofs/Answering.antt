@@ -12,6 +12,7 @@ use lib.Seq.{length-take-le}
 use borrow.Author.Tests.{eqb-true, eq-eqb, leb-true}
 use Rattle.field.specs.declared.Guid.{Guid}
 use Rattle.field.specs.Fields.{number}
+use Rattle.extent.specs.declared.Extent.{Extent}
 use Rattle.extent.specs.Extent.{MiB}
 use Rattle.extent.proofs.Laws.{iff}
 use Rattle.vhdx_header.specs.declared.Header.{Header}
@@ -22,7 +23,7 @@ use Rattle.vhdx_sequence.specs.Sequence.{activeSequence}
 use Rattle.vhdx_log.specs.declared.survey.Survey.{Survey}
 use Rattle.vhdx_log.specs.declared.Answer.{Answer}
 use Rattle.vhdx_log.specs.declared.Answer.the-variants.{Refused, Apply}
-use Rattle.vhdx_log.specs.Work.{Descriptor, head, allDescriptors, sectors, furthest, Extent, someLies, Plan, refused, apply, count, lengthLimit, applyWithin, work}
+use Rattle.vhdx_log.specs.Work.{Descriptor, head, allDescriptors, sectors, furthest, someLies, Plan, refused, apply, count, lengthLimit, applyWithin, work}
 use Rattle.vhdx_log.specs.Plan.{entriesFrom, logBytes, planSequence, planLog, planHeader, plan}
 use Rattle.vhdx_log.specs.Cursor.{descriptorsOn, AllReadable, Walkable}
 use Rattle.vhdx_log.specs.Survey.{capped, surveyOf}

@@ -10,7 +10,8 @@ use native.Mathlib.Omega.{arith}
 use lib.Dec.{leb}
 use lib.ListN.{length, length-append}
 use borrow.Author.Tests.{leb-true, le-leb, lt-leb, eq-eqb, ne-eqb}
-use Rattle.vhdx_log.specs.Work.{Descriptor, writes, zeros, Entries, head, allDescriptors, zeroSector, sectorsOf, sectors, end, furthest, finalLength, Extent, someLies, refused, apply, lengthLimit, work}
+use Rattle.extent.specs.declared.Extent.{Extent}
+use Rattle.vhdx_log.specs.Work.{Descriptor, writes, zeros, Entries, head, allDescriptors, zeroSector, sectorsOf, sectors, end, furthest, finalLength, someLies, refused, apply, lengthLimit, work}
 use Rattle.vhdx_log.specs.Survey.{capped}
 use Rattle.vhdx_log.proofs.Runs.{length-sectors}
 

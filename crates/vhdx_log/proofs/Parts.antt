@@ -8,10 +8,11 @@ use native.Mathlib.Decide.{decLt}
 use native.Mathlib.Omega.{arith}
 use lib.ListN.{length}
 use borrow.Author.Tests.{leb-true, eqb-true}
+use Rattle.decision.proofs.Laws.{every-at}
 use Rattle.vhdx_entry.specs.declared.ring.RingPos.{RingPos}
 use Rattle.vhdx_entry.specs.Ring.{sectorSize, sectorCount, ring, sectorAt, On}
 use Rattle.vhdx_entry.specs.Entry.{descriptor, descriptorStart, descriptorCount, sequenceNumber, entryLength, isData, isZero, wholeSectors, zeroLength, fileOffset, dataBefore, dataCount, size, descriptorRule, descriptorsRule}
-use Rattle.vhdx_entry.proofs.Laws.{length-ring, in-first, every-at, data-more}
+use Rattle.vhdx_entry.proofs.Laws.{length-ring, in-first, data-more}
 use Rattle.vhdx_log.specs.Work.{writes}
 use Rattle.vhdx_log.specs.Plan.{sectorBytes}
 use Rattle.vhdx_log.specs.Cursor.{Readable}

@@ -7,12 +7,13 @@ use Prim.Native.Nat.{ℕ, zero, suc, _+_, _*_, _/_, _%_}
 use native.Mathlib.Omega.{arith}
 use lib.Dec.{eqb}
 use lib.ListN.{length}
+use Rattle.extent.specs.declared.Extent.{Extent}
 use Rattle.extent.specs.Extent.{MiB, shares}
 use Rattle.extent.proofs.Laws.{shares-split}
 use Rattle.vhdx_log.specs.declared.run.Source.{Source}
 use Rattle.vhdx_log.specs.declared.run.Source.the-variants.{Zeros, Data}
 use Rattle.vhdx_log.specs.declared.run.Run.{Run}
-use Rattle.vhdx_log.specs.Work.{Sector, sectorsAt, sectorsOf, end, Extent, lies, someLies}
+use Rattle.vhdx_log.specs.Work.{Sector, sectorsAt, sectorsOf, end, lies, someLies}
 use Rattle.vhdx_log.specs.Cursor.{bytesOf, descriptorBy, descriptorIn, ProperBy, Proper}
 
 sectors-by : (log : List ℕ) (source : Source) (offset n : ℕ) → ProperBy log source n → sectorsOf (descriptorBy log source offset n) ≡ sectorsAt (n / 4096) offset (bytesOf log source)

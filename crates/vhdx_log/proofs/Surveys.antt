@@ -8,9 +8,10 @@ use Prim.Native.Nat.{ℕ, _+_, _*_, _/_, _≤_, max}
 use native.Mathlib.Omega.{arith}
 use lib.Dec.{eqb}
 use lib.ListN.{length, length-append}
+use Rattle.extent.specs.declared.Extent.{Extent}
 use Rattle.vhdx_log.specs.declared.run.Run.{Run}
 use Rattle.vhdx_log.specs.declared.survey.Survey.{Survey}
-use Rattle.vhdx_log.specs.Work.{Descriptor, sectorsOf, sectors, end, furthest, Extent, lies, someLies}
+use Rattle.vhdx_log.specs.Work.{Descriptor, sectorsOf, sectors, end, furthest, lies, someLies}
 use Rattle.vhdx_log.specs.Cursor.{bytesOf, descriptorIn, Proper}
 use Rattle.vhdx_log.specs.Survey.{capped, surveyOf, added}
 use Rattle.vhdx_log.proofs.Runs.{run-sectors, run-end, run-whole, length-sectors, lies-whole, lies-append}

@@ -8,6 +8,7 @@ use Prim.Native.Nat.{ℕ, zero, suc, _+_}
 use lib.Dec.{eqb}
 use lib.ListN.{length, take, drop}
 use Rattle.field.specs.Fields.{number}
+use Rattle.extent.specs.declared.Extent.{Extent}
 use Rattle.vhdx_header.specs.declared.Header.{Header}
 use Rattle.vhdx_header.specs.declared.Answer.{Answer}
 use Rattle.vhdx_header.specs.declared.Answer.the-variants.{Refused, Current}
@@ -16,7 +17,7 @@ use Rattle.vhdx_entry.specs.Ring.{ring}
 use Rattle.vhdx_entry.specs.Entry.{descriptor, isData, trailingBytes, leadingBytes, zeroLength, fileOffset, dataBefore, dataSector, descriptorCount, flushedFileOffset, lastFileOffset, behind}
 use Rattle.vhdx_sequence.specs.declared.Sequence.{Sequence}
 use Rattle.vhdx_sequence.specs.Sequence.{activeSequence}
-use Rattle.vhdx_log.specs.Work.{Descriptor, writes, zeros, LogEntry, Entries, only, then, Extent, Plan, refused, work, applyWithin}
+use Rattle.vhdx_log.specs.Work.{Descriptor, writes, zeros, LogEntry, Entries, only, then, Plan, refused, work, applyWithin}
 
 -- "A data sector is LeadingBytes, the 4,084 bytes, TrailingBytes.": of a data descriptor d and its data sector s
 unfoldable pub sectorBytes : List ℕ → List ℕ → List ℕ

@@ -6,6 +6,7 @@ use mathlib.Core.List.{List, [], _∷_, _++_}
 use Prim.Native.Nat.{ℕ, zero, suc, _+_, _*_, _/_, _^_, max}
 use lib.Dec.{eqb, leb}
 use lib.ListN.{length, replicate}
+use Rattle.extent.specs.declared.Extent.{Extent}
 use Rattle.extent.specs.Extent.{MiB, shares}
 use Rattle.vhdx_entry.specs.Ring.{sectorSize}
 
@@ -73,11 +74,6 @@ furthest (d ∷ ds) = max (end d) (furthest ds)
 -- "the greatest of its length, the head's LastFileOffset, and the end of each descriptor that names at least one sector"
 abbrev pub finalLength : Entries → ℕ → ℕ
 finalLength es n = max n (max (head es .last) (furthest (allDescriptors es)))
-
--- where the log lies in the file
-pub record Extent : Type 0 where
-  pub offset : ℕ
-  pub length : ℕ
 
 -- "lies in the first MiB or in the log": shares a byte with it
 abbrev pub lies : Extent → ℕ → ℕ → Bool

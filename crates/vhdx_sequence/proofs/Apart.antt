@@ -12,13 +12,14 @@ use native.Mathlib.Omega.{arith}
 use lib.Dec.{eqb, ltb}
 use lib.ListN.{length}
 use borrow.Author.Tests.{eqb-true, eq-eqb, ne-eqb, leb-true, ltb-true}
+use Rattle.decision.proofs.Laws.{every-at, onlyIf-some}
 use Rattle.field.specs.declared.Guid.{Guid}
 use Rattle.field.specs.Fields.{field}
 use Rattle.vhdx_entry.specs.declared.Entry.{Entry}
 use Rattle.vhdx_entry.specs.Ring.{sectorCount, ring, sectorAt}
 use Rattle.vhdx_entry.specs.Entry.{loge, desc, zeroes, datum, signature, tail, sequenceNumber, descriptorCount, descriptorStart, descriptor, isData, isZero, zeroLength, wholeSectors, descriptorSectors, dataCount, dataSector, size, descriptorRule, descriptorsRule, dataSectorRule, dataSectorsRule, validEntry, contents, entryAt}
-use Rattle.vhdx_entry.proofs.Laws.{field-in, length-ring, sector-on, first-field, every-at}
-use Rattle.vhdx_entry.proofs.Clauses.{onlyIf-some, keeps}
+use Rattle.vhdx_entry.proofs.Laws.{field-in, length-ring, sector-on, first-field}
+use Rattle.vhdx_entry.proofs.Clauses.{keeps}
 use Rattle.vhdx_sequence.specs.Scan.{markAt, numberAt}
 use Rattle.vhdx_sequence.proofs.Chain.{Apart}
 

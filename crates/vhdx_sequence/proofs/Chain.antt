@@ -10,8 +10,8 @@ use native.Mathlib.Omega.{arith}
 use native.Mathlib.Decide.{decLt, decLe}
 use lib.Dec.{eqb}
 use borrow.Author.Tests.{eqb-true, eq-eqb}
+use Rattle.decision.specs.Bounded.{onlyIf}
 use Rattle.vhdx_entry.specs.declared.Entry.{Entry}
-use Rattle.vhdx_entry.specs.Entry.{onlyIf}
 use Rattle.vhdx_entry.proofs.Laws.{mod-round}
 use Rattle.vhdx_sequence.specs.Sequence.{Link, upto, _>>=_, chain}
 

@@ -9,8 +9,8 @@ use native.Mathlib.Nat.{mod-lt}
 use native.Mathlib.Omega.{arith}
 use lib.Dec.{eqb, leb}
 use borrow.Author.Tests.{eqb-true, eq-eqb, le-leb}
+use Rattle.decision.specs.Bounded.{onlyIf}
 use Rattle.vhdx_entry.specs.declared.Entry.{Entry}
-use Rattle.vhdx_entry.specs.Entry.{onlyIf}
 use Rattle.vhdx_sequence.specs.Sequence.{Link, upto, bestOf, _>>=_, chain, sequence, activeIn}
 use Rattle.vhdx_sequence.specs.declared.Sequence.{Sequence}
 use Rattle.vhdx_sequence.proofs.Best.{All, Covers, AsGood, asGood-refl, all-best, best-covers}

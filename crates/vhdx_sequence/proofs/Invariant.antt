@@ -11,8 +11,8 @@ use native.Mathlib.Omega.{arith}
 use native.Mathlib.Decide.{decLt}
 use lib.Dec.{eqb, leb}
 use borrow.Author.Tests.{eqb-true, eq-eqb, leb-true, le-leb}
+use Rattle.decision.specs.Bounded.{onlyIf}
 use Rattle.vhdx_entry.specs.declared.Entry.{Entry}
-use Rattle.vhdx_entry.specs.Entry.{onlyIf}
 use Rattle.vhdx_entry.proofs.Laws.{mod-round}
 use Rattle.vhdx_sequence.specs.Sequence.{Link, upto, better, chain, activeIn}
 use Rattle.vhdx_sequence.specs.declared.Sequence.{Sequence}

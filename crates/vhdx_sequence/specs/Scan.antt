@@ -7,9 +7,10 @@ use mathlib.Core.Option.{Option, none}
 use mathlib.Core.Path.{_≡_}
 use Prim.Native.Nat.{ℕ, _+_, _-_, _%_, _^_, _≤_, _<_}
 use lib.Dec.{leb, ltb, eqb}
+use Rattle.decision.specs.Bounded.{onlyIf}
 use Rattle.vhdx_entry.specs.declared.Entry.{Entry}
 use Rattle.vhdx_entry.specs.Ring.{sectorAt, advanced, On}
-use Rattle.vhdx_entry.specs.Entry.{onlyIf, signatureRule, sequenceNumber}
+use Rattle.vhdx_entry.specs.Entry.{signatureRule, sequenceNumber}
 use Rattle.vhdx_sequence.specs.Sequence.{better, sequenceOf}
 use Rattle.vhdx_sequence.specs.declared.Sequence.{Sequence}
 use Rattle.vhdx_sequence.specs.declared.lap.Place.{Place}

@@ -5,10 +5,11 @@ use mathlib.Core.List.{List}
 use mathlib.Core.Option.{Option, none, some}
 use Prim.Native.Nat.{ℕ, zero, suc, _+_, _%_}
 use lib.Dec.{ltb, leb, eqb}
+use Rattle.decision.specs.Bounded.{onlyIf}
 use Rattle.field.specs.declared.Guid.{Guid}
 use Rattle.vhdx_entry.specs.declared.Entry.{Entry}
 use Rattle.vhdx_entry.specs.Ring.{sectorCount}
-use Rattle.vhdx_entry.specs.Entry.{onlyIf, entryAt}
+use Rattle.vhdx_entry.specs.Entry.{entryAt}
 use Rattle.vhdx_sequence.specs.declared.Sequence.{Sequence}
 use Rattle.vhdx_sequence.specs.declared.Found.{Found}
 use Rattle.vhdx_sequence.specs.declared.Found.the-variants.{At, Nothing}

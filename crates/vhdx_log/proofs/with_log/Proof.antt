@@ -4,10 +4,10 @@ use mathlib.Core.Path.{sym, ap, subst, _∙_}
 use mathlib.Core.Option.{Option}
 use native.Mathlib.Omega.{arith}
 use lib.ListN.{length}
+use Rattle.extent.specs.declared.Extent.{Extent}
 use Rattle.vhdx_sequence.specs.declared.Sequence.{Sequence}
 use Rattle.vhdx_sequence.specs.Sequence.{sequenceOf, activeSequence}
 use Rattle.vhdx_sequence.proofs.Laws.{found}
-use Rattle.vhdx_log.specs.Work.{Extent}
 use Rattle.vhdx_log.specs.Plan.{planSequence}
 use Rattle.vhdx_log.specs.Answers.{Stands}
 use Rattle.vhdx_log.proofs.Chains.{walkable}

@@ -8,9 +8,11 @@ use Prim.Native.Nat.{ℕ, _+_, _-_, _≤_, _<_}
 use native.Mathlib.Omega.{arith}
 use lib.ListN.{length}
 use borrow.Author.Tests.{not-true, not-false}
+use Rattle.decision.specs.Bounded.{every, onlyIf}
+use Rattle.decision.proofs.Laws.{every-more, every-not}
 use Rattle.vhdx_entry.specs.Ring.{ring, On}
-use Rattle.vhdx_entry.specs.Entry.{descriptor, descriptorStart, descriptorRule, isData, dataBefore, every, onlyIf}
-use Rattle.vhdx_entry.proofs.Laws.{every-more, every-not, data-more}
+use Rattle.vhdx_entry.specs.Entry.{descriptor, descriptorStart, descriptorRule, isData, dataBefore}
+use Rattle.vhdx_entry.proofs.Laws.{data-more}
 use borrow.Author.Needs.{needs}
 use Rattle.vhdx_entry.proofs.body.data_descriptors.Statement.{statement}
 use Rattle.vhdx_entry.proofs.body.data_descriptors.Tie as tie

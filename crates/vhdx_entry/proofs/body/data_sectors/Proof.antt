@@ -6,10 +6,12 @@ use mathlib.Core.List.{List}
 use Prim.Native.Nat.{ℕ, _+_, _-_, _%_, _≤_, _<_}
 use native.Mathlib.Omega.{arith}
 use borrow.Author.Tests.{not-true, not-false}
+use Rattle.decision.specs.Bounded.{every}
+use Rattle.decision.proofs.Laws.{every-more, every-end, every-not}
 use Rattle.vhdx_entry.specs.declared.ring.RingPos.{RingPos}
 use Rattle.vhdx_entry.specs.Ring.{ring, sectorAt, On}
-use Rattle.vhdx_entry.specs.Entry.{dataSectorRule, every}
-use Rattle.vhdx_entry.proofs.Laws.{sector-on, every-more, every-end, every-not}
+use Rattle.vhdx_entry.specs.Entry.{dataSectorRule}
+use Rattle.vhdx_entry.proofs.Laws.{sector-on}
 use borrow.Author.Needs.{needs}
 use Rattle.vhdx_entry.proofs.body.data_sectors.Statement.{statement}
 use Rattle.vhdx_entry.proofs.body.data_sectors.Tie as tie

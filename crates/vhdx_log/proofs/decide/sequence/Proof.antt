@@ -4,7 +4,8 @@ use mathlib.Core.Path.{sym, ap, _∙_}
 use Prim.Native.Nat.{max}
 use native.Mathlib.Omega.{arith}
 use lib.ListN.{length}
-use Rattle.vhdx_log.specs.Work.{Extent, work}
+use Rattle.extent.specs.declared.Extent.{Extent}
+use Rattle.vhdx_log.specs.Work.{work}
 use Rattle.vhdx_log.specs.Plan.{entriesFrom}
 use Rattle.vhdx_log.proofs.Chains.{head-says, on-first, more-readable, first-placed}
 use Rattle.vhdx_log.proofs.Decisions.{refused-6}

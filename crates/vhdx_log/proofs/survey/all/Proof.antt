@@ -5,7 +5,7 @@ use mathlib.Core.List.{[]}
 use Prim.Native.Nat.{_+_}
 use native.Mathlib.Omega.{arith}
 use lib.ListN.{length}
-use Rattle.vhdx_log.specs.Work.{Extent}
+use Rattle.extent.specs.declared.Extent.{Extent}
 use Rattle.vhdx_log.specs.Cursor.{descriptorsLeft, Placed, Onward}
 use Rattle.vhdx_log.proofs.Surveys.{surveyFrom, survey-onward, surveyed}
 use borrow.Author.Needs.{needs}

@@ -1,0 +1,54 @@
+-- A plan in figures, and one of its sectors as the exported functions answer them. An answer is written into an array that the
+-- caller lends: what stands in it otherwise stays.
+-- Assumes nothing.
+use mathlib.Core.List.{List, []}
+use mathlib.Core.Option.{Option}
+use mathlib.Core.Path.{_≡_}
+use Prim.Native.Nat.{ℕ}
+use lib.ListN.{set}
+use Rattle.vhdx_log.specs.Work.{Plan, refused, apply, count, Sector}
+use Rattle.vhdx_log.specs.Walk.{nextOf}
+use Rattle.vhdx_log.specs.declared.run.Source.{Source}
+use Rattle.vhdx_log.specs.declared.run.Source.the-variants.{Zeros, Data}
+use Rattle.vhdx_log.specs.declared.walk.Next.{Next}
+use Rattle.vhdx_log.specs.declared.walk.Next.the-variants.{Sector as Here, End}
+
+abbrev pub refusal : Plan → ℕ
+refusal (refused c) = c
+refusal (apply n ss) = 0
+
+abbrev pub finalLength : Plan → ℕ
+finalLength (refused c) = 0
+finalLength (apply n ss) = n
+
+-- the final length and the count; zeros where the plan is a refusal
+abbrev pub figuresIn : Plan → List ℕ → List ℕ
+figuresIn p answer = set (set answer 0 (finalLength p)) 1 (count p)
+
+abbrev pub sectorsOf : Plan → List Sector
+sectorsOf (refused c) = []
+sectorsOf (apply n ss) = ss
+
+-- a sector's kind, and what is written of it: its offset, and where the log holds its bytes
+abbrev pub sourceKind : Source → ℕ
+sourceKind Zeros = 1
+sourceKind (Data descriptor sector) = 2
+
+abbrev pub sourceIn : Source → List ℕ → List ℕ
+sourceIn Zeros answer = answer
+sourceIn (Data descriptor sector) answer = set (set answer 1 descriptor) 2 sector
+
+abbrev pub kindOf : Next → ℕ
+kindOf End = 0
+kindOf (Here s) = sourceKind (s .source)
+
+abbrev pub nextIn : Next → List ℕ → List ℕ
+nextIn End answer = answer
+nextIn (Here s) answer = sourceIn (s .source) (set answer 0 (s .offset))
+
+-- the kind and what was written stand for the expected sector
+pub record Answered (log : List ℕ) (expected : Option Sector) (kind : ℕ) (before after : List ℕ) : Type 0 where
+  pub next : Next
+  pub is : nextOf log next ≡ expected
+  pub told : kind ≡ kindOf next
+  pub written : after ≡ nextIn next before

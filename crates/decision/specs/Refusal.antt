@@ -1,0 +1,19 @@
+-- An answer, or a refusal by a number of document 01, "When the gate says no": "Checked in this order; the first that applies
+-- is the answer."
+-- Assumes nothing.
+use mathlib.Core.Bool.{Bool, true, false}
+use Prim.Native.Nat.{ℕ}
+
+pub data Outcome (A : Type 0) : Type 0 where
+  refused : ℕ → Outcome A
+  answered : A → Outcome A
+
+-- a test that fails refuses by its number
+abbrev pub check : {A : Type 0} → Bool → ℕ → Outcome A → Outcome A
+check true c o = o
+check false c o = refused c
+
+-- what is decided with an answer in hand; a refusal stays
+abbrev pub andThen : {A B : Type 0} → Outcome A → (A → Outcome B) → Outcome B
+andThen (refused c) f = refused c
+andThen (answered a) f = f a

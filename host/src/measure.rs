@@ -1,0 +1,28 @@
+//! What the benchmarks share: the best of some runs, and the yardstick.
+use crate::api;
+use crate::image::MIB;
+use std::hint::black_box;
+use std::time::{Duration, Instant};
+
+/// The best of some runs: what else the machine does only adds.
+pub fn time<T>(mut work: impl FnMut() -> T) -> Duration {
+    (0..5)
+        .map(|_| {
+            let start = Instant::now();
+            black_box(work());
+            start.elapsed()
+        })
+        .min()
+        .expect("some runs")
+}
+
+/// One pass of the project's own CRC-32C over 64 MiB, which it prints.
+pub fn crc_pass() -> Duration {
+    let bytes: Vec<u8> = (0..64 * MIB).map(|i| (i ^ (i >> 8)) as u8).collect();
+    let pass = time(|| api::crc32c(black_box(&bytes)));
+    println!(
+        "one pass of crc32c over 64 MiB: {:.1} ms",
+        pass.as_secs_f64() * 1e3
+    );
+    pass
+}
