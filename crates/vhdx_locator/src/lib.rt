@@ -12,24 +12,7 @@ ghost use Rattle.decision.specs.Bounded.{every, found};
 ghost use Rattle.vhdx_locator.specs.Locator.{vhdxType, entryCount, entryStart, typeRule, entryRule, locatorRule, entryOf, valueOf};
 
 // b04aefb7-d19e-4a81-b789-25b8e9445913, as it is stored
-const VHDX: [u8; 16] = [
-    0xb7,
-    0xef,
-    0x4a,
-    0xb0,
-    0x9e,
-    0xd1,
-    0x81,
-    0x4a,
-    0xb7,
-    0x89,
-    0x25,
-    0xb8,
-    0xe9,
-    0x44,
-    0x59,
-    0x13,
-];
+const VHDX: [u8; 16] = *b"\xb7\xef\x4a\xb0\x9e\xd1\x81\x4a\xb7\x89\x25\xb8\xe9\x44\x59\x13";
 
 // The type that is understood here.
 fn vhdx() -> [u8; 16]

@@ -9,43 +9,9 @@ pub const METADATA: usize = 1;
 
 const REGIONS: [[u8; 16]; 2] = [
     // 2DC27766-F623-4200-9D64-115E9BFD4A08
-    [
-        0x66,
-        0x77,
-        0xc2,
-        0x2d,
-        0x23,
-        0xf6,
-        0x00,
-        0x42,
-        0x9d,
-        0x64,
-        0x11,
-        0x5e,
-        0x9b,
-        0xfd,
-        0x4a,
-        0x08,
-    ],
+    *b"\x66\x77\xc2\x2d\x23\xf6\x00\x42\x9d\x64\x11\x5e\x9b\xfd\x4a\x08",
     // 8B7CA206-4790-4B9A-B8FE-575F050F886E
-    [
-        0x06,
-        0xa2,
-        0x7c,
-        0x8b,
-        0x90,
-        0x47,
-        0x9a,
-        0x4b,
-        0xb8,
-        0xfe,
-        0x57,
-        0x5f,
-        0x05,
-        0x0f,
-        0x88,
-        0x6e,
-    ],
+    *b"\x06\xa2\x7c\x8b\x90\x47\x9a\x4b\xb8\xfe\x57\x5f\x05\x0f\x88\x6e",
 ];
 
 pub fn regions() -> [[u8; 16]; 2]
