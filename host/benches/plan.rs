@@ -2,7 +2,7 @@
 //! same run. Prints the ratios; exits with status 1 where one is above the limit.
 use shrunvaki_host::api::{self, Plan};
 use shrunvaki_host::image::{seal, Descriptor, Entry, Image, GUID, MIB, SECTOR};
-use shrunvaki_host::measure::{crc_pass, time};
+use shrunvaki_host::measure::{crc_pass, finish, report, time};
 use std::hint::black_box;
 
 const LOG: usize = 64 * MIB;
@@ -100,20 +100,12 @@ fn main() {
             Plan::Refused(5),
         ),
     ];
-    let mut slow = false;
+    let mut most: f64 = 0.0;
     for (name, build, expected) in cases {
         let image = build();
         assert_eq!(api::plan(&image.buffer, image.length), expected, "{name}");
         let taken = time(|| api::plan(black_box(&image.buffer), image.length));
-        let ratio = taken.as_secs_f64() / pass.as_secs_f64();
-        slow |= ratio > LIMIT;
-        println!(
-            "{name}: {:.1} ms, {ratio:.2} passes",
-            taken.as_secs_f64() * 1e3
-        );
+        most = most.max(report(name, taken, pass));
     }
-    if slow {
-        println!("above {LIMIT} passes");
-        std::process::exit(1);
-    }
+    finish(most, LIMIT);
 }

@@ -26,3 +26,21 @@ pub fn crc_pass() -> Duration {
     );
     pass
 }
+
+/// Prints what a case took, in milliseconds and in passes; returns the passes.
+pub fn report(name: &str, taken: Duration, pass: Duration) -> f64 {
+    let ratio = taken.as_secs_f64() / pass.as_secs_f64();
+    println!(
+        "{name}: {:.2} ms, {ratio:.3} passes",
+        taken.as_secs_f64() * 1e3
+    );
+    ratio
+}
+
+/// Ends a benchmark with status 1 where a case took more passes than the limit.
+pub fn finish(most: f64, limit: f64) {
+    if most > limit {
+        println!("above {limit} passes");
+        std::process::exit(1);
+    }
+}
