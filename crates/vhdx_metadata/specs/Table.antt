@@ -83,6 +83,7 @@ locationRule n p = lengthRule p && offsetRule n p
 unfoldable pub ownRule : ℕ → List ℕ → Bool
 ownRule n e = locationRule n (itemExtent e) && requiredRule e
 
+-- of entry i: by itself, and with every earlier one
 unfoldable pub entryRule : List ℕ → ℕ → Bool
 entryRule r i = ownRule (length r) (entry r i) && every i (λ j. uniqueRule (entry r j) (entry r i))
 

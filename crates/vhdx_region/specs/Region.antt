@@ -117,6 +117,7 @@ ownRule n log e = locationRule n (extentOf e) && (apartRule (extentOf e) log && 
 unfoldable pub pairRule : List ℕ → List ℕ → Bool
 pairRule d e = uniqueRule d e && apartRule (extentOf d) (extentOf e)
 
+-- of entry i: by itself, and with every earlier one
 unfoldable pub entryRule : ℕ → Extent → List ℕ → ℕ → Bool
 entryRule n log t i = ownRule n log (entry t i) && every i (λ j. pairRule (entry t j) (entry t i))
 
