@@ -43,6 +43,16 @@ fn with_region(region: Region) -> u64 {
     with_table(|table| table.regions.push(region))
 }
 
+/// What it answers with one more region at an offset, in an image of a length.
+fn with_region_in(size: usize, offset: u64, length: u64) -> u64 {
+    after(|d| {
+        d.length = size;
+        d.table()
+            .regions
+            .push(Region::new(unknown(1), offset, length));
+    })
+}
+
 /// An identifier that nobody knows.
 fn unknown(n: u32) -> [u8; 16] {
     let mut id = *b"nobody knows ...";
@@ -180,12 +190,7 @@ fn region_offsets_and_lengths_are_whole_mib() {
         (4 * M, M + 1, 10),
     ];
     for (offset, length, expected) in cases {
-        let got = after(|d| {
-            d.length = 6 * MIB;
-            d.table()
-                .regions
-                .push(Region::new(unknown(1), offset, length));
-        });
+        let got = with_region_in(6 * MIB, offset, length);
         assert_eq!(got, expected, "{length} at {offset}");
     }
 }
@@ -205,12 +210,7 @@ fn a_region_lies_inside_the_image() {
         (1 << 63, M, 5 * MIB, 10),
     ];
     for (offset, length, size, expected) in cases {
-        let got = after(|d| {
-            d.length = size;
-            d.table()
-                .regions
-                .push(Region::new(unknown(1), offset, length));
-        });
+        let got = with_region_in(size, offset, length);
         assert_eq!(got, expected, "{length} at {offset} of {size}");
     }
 }

@@ -83,7 +83,7 @@ first-holds f (suc m) {i} h = go (first m f) refl (f m) refl (λ (j : ℕ) e. fi
 
 -- ---- refusals
 
-pub check-answered : {A : Type 0} (t : Bool) (c : ℕ) (o : Outcome A) {a : A} → check t c o ≡ answered a → (t ≡ true) × (o ≡ answered a)
+pub check-answered : {A : Type 0} (t : Bool) (c : ℕ) (o : Outcome A) {a : A} → check t (refused c) o ≡ answered a → (t ≡ true) × (o ≡ answered a)
 check-answered true c o e = (refl, e)
 check-answered false c o e = let z : _≡_ {A = ℕ} 0 1 = cc in absurd (omega arith)
 

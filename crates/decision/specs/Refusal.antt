@@ -8,10 +8,10 @@ pub data Outcome (A : Type 0) : Type 0 where
   refused : ℕ → Outcome A
   answered : A → Outcome A
 
--- a test that fails refuses by its number
-abbrev pub check : {A : Type 0} → Bool → ℕ → Outcome A → Outcome A
-check true c o = o
-check false c o = refused c
+-- a chain of tests: one that fails refuses, whatever comes behind it
+abbrev pub check : {A : Type 0} → Bool → A → A → A
+check true refusal rest = rest
+check false refusal rest = refusal
 
 -- what is decided with an answer in hand; a refusal stays
 abbrev pub andThen : {A B : Type 0} → Outcome A → (A → Outcome B) → Outcome B

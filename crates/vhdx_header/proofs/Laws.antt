@@ -9,10 +9,11 @@ use lib.Dec.{leb}
 use lib.ListN.{length}
 use lib.Seq.{length-take-le}
 use borrow.Author.Tests.{eqb-true, leb-true, le-leb}
+use Rattle.decision.specs.Refusal.{check}
 use Rattle.field.specs.Fields.{starts}
 use Rattle.extent.specs.Extent.{MiB}
 use Rattle.vhdx_header.specs.Header.{versionRule, logVersionRule, logOffsetRule, logLengthRule, logStartRule, logLimit, logLimitRule, fieldRules, insideRule, contents}
-use Rattle.vhdx_header.specs.Current.{check, vhdxfile, slot1, slot2, headerAt, currentSlot, readHeader, readSlot, readFirstMiB, withinImage, firstMiB, currentHeader}
+use Rattle.vhdx_header.specs.Current.{vhdxfile, slot1, slot2, headerAt, currentSlot, readHeader, readSlot, readFirstMiB, withinImage, firstMiB, currentHeader}
 use Rattle.vhdx_header.specs.declared.Header.{Header}
 use Rattle.vhdx_header.specs.declared.Answer.{Answer}
 use Rattle.vhdx_header.specs.declared.Answer.the-variants.{Refused, Current}
@@ -38,7 +39,7 @@ pub record Accepted (b : List ℕ) (n : ℕ) (h : Header) : Type 0 where
   pub inside : h .«log_offset» + h .«log_length» ≤ n
 
 -- a header that is answered has passed each test
-passed : (t : Bool) (c : ℕ) (a : Answer) {h : Header} → check t c a ≡ Current h → (t ≡ true) × (a ≡ Current h)
+passed : (t : Bool) (c : ℕ) (a : Answer) {h : Header} → check t (Refused c) a ≡ Current h → (t ≡ true) × (a ≡ Current h)
 passed true c a e = (refl, e)
 passed false c a e = let z : _≡_ {A = ℕ} 0 1 = cc in absurd (omega arith)
 

@@ -6,6 +6,7 @@ use mathlib.Core.List.{List, [], _∷_}
 use Prim.Native.Nat.{ℕ}
 use lib.Dec.{leb, ltb}
 use lib.ListN.{length, take, drop}
+use Rattle.decision.specs.Refusal.{check}
 use Rattle.field.specs.Fields.{starts}
 use Rattle.extent.specs.Extent.{MiB}
 use Rattle.vhdx_header.specs.Header.{sequenceNumber, validHeader, fieldRules, insideRule, contents}
@@ -13,11 +14,6 @@ use Rattle.vhdx_header.specs.declared.Answer.{Answer}
 use Rattle.vhdx_header.specs.declared.Answer.the-variants.{Refused, Current}
 use Rattle.vhdx_header.specs.declared.choice.Slot.{Slot}
 use Rattle.vhdx_header.specs.declared.choice.Slot.the-variants.{Neither, First, Second}
-
--- a test that fails refuses by its number
-abbrev pub check : Bool → ℕ → Answer → Answer
-check true c a = a
-check false c a = Refused c
 
 -- "vhdxfile"
 abbrev pub vhdxfile : List ℕ
@@ -50,7 +46,7 @@ currentSlot m =
 
 -- 4: a field of the current header breaks its rule
 unfoldable pub readHeader : ℕ → List ℕ → Answer
-readHeader at h = check (fieldRules h) 4 (Current (contents at h))
+readHeader at h = check (fieldRules h) (Refused 4) (Current (contents at h))
 
 -- 3: no current header
 abbrev pub readSlot : Slot → List ℕ → Answer
@@ -60,12 +56,12 @@ readSlot Second m = readHeader slot2 (headerAt m slot2)
 
 -- 2: bytes 0-7 are not "vhdxfile"
 unfoldable pub readFirstMiB : List ℕ → Answer
-readFirstMiB m = check (starts m vhdxfile) 2 (readSlot (currentSlot m) m)
+readFirstMiB m = check (starts m vhdxfile) (Refused 2) (readSlot (currentSlot m) m)
 
 -- 4, the rule that the length n decides too
 abbrev pub withinImage : ℕ → Answer → Answer
 withinImage n (Refused c) = Refused c
-withinImage n (Current h) = check (insideRule h n) 4 (Current h)
+withinImage n (Current h) = check (insideRule h n) (Refused 4) (Current h)
 
 -- all that a header is read from
 unfoldable pub firstMiB : List ℕ → List ℕ
@@ -73,4 +69,4 @@ firstMiB buffer = take MiB buffer
 
 -- of the image that is the first n bytes of a buffer. 1: length above the buffer's, or below 1 MiB
 unfoldable pub currentHeader : List ℕ → ℕ → Answer
-currentHeader buffer n = check (leb n (length buffer) && leb MiB n) 1 (withinImage n (readFirstMiB (firstMiB buffer)))
+currentHeader buffer n = check (leb n (length buffer) && leb MiB n) (Refused 1) (withinImage n (readFirstMiB (firstMiB buffer)))

@@ -11,6 +11,7 @@ use lib.Dec.{leb, eqb}
 use lib.ListN.{length}
 use borrow.Author.Tests.{leb-true, le-leb}
 use Rattle.field.specs.Fields.{number}
+use Rattle.decision.specs.Refusal.{check}
 use Rattle.extent.specs.declared.Extent.{Extent}
 use Rattle.vhdx_header.specs.declared.Header.{Header}
 use Rattle.vhdx_header.specs.declared.Answer.{Answer}
@@ -19,11 +20,11 @@ use Rattle.vhdx_header.specs.Current.{firstMiB, currentHeader}
 use Rattle.vhdx_header.proofs.Laws.{read-again}
 use Rattle.vhdx_sequence.specs.declared.Sequence.{Sequence}
 use Rattle.vhdx_sequence.specs.Sequence.{activeSequence}
-use Rattle.vhdx_log.specs.Work.{Entries, head, allDescriptors, Sector, sectors, finalLength, someLies, Plan, apply, check, lengthLimit, applyWithin, work}
+use Rattle.vhdx_log.specs.Work.{Entries, head, allDescriptors, Sector, sectors, finalLength, someLies, Plan, refused, apply, lengthLimit, applyWithin, work}
 use Rattle.vhdx_log.specs.Plan.{entriesFrom, logBytes, extentOf, planSequence, planLog, planHeader, plan}
 
 -- a plan that is no refusal passed the test
-passed : (t : Bool) (c : ℕ) (p : Plan) {m : ℕ} {ss : List Sector} → check t c p ≡ apply m ss → (t ≡ true) × (p ≡ apply m ss)
+passed : (t : Bool) (c : ℕ) (p : Plan) {m : ℕ} {ss : List Sector} → check t (refused c) p ≡ apply m ss → (t ≡ true) × (p ≡ apply m ss)
 passed true c p h = (refl, h)
 passed false c p h = let z : _≡_ {A = ℕ} 0 1 = cc in absurd (omega arith)
 
@@ -48,13 +49,13 @@ module _ {n n′ m capacity : ℕ} {ss : List Sector} (longer : n ≤ n′) (bel
   unfolding work
   work-again e es h =
       let ds = sectors (allDescriptors es) in
-      let a = passed (leb (head es .flushed) n) 6 (check (not (someLies e ds)) 7 (applyWithin capacity (finalLength es n) ds)) h in
+      let a = passed (leb (head es .flushed) n) 6 (check (not (someLies e ds)) (refused 7) (applyWithin capacity (finalLength es n) ds)) h in
       let b = passed (not (someLies e ds)) 7 (applyWithin capacity (finalLength es n) ds) (a .1) in
       let w = within capacity (finalLength es n) ds (b .1) in
       let f : head es .flushed ≤ n = leb-true (head es .flushed) n (a .0) in
       let l : finalLength es n′ ≡ finalLength es n = omega (arith, w .same) in (
-        ap (λ (t : Bool). check t 6 (check (not (someLies e ds)) 7 (applyWithin capacity (finalLength es n′) ds))) (le-leb (head es .flushed) n′ (omega arith))
-            ∙ ap (λ (t : Bool). check t 7 (applyWithin capacity (finalLength es n′) ds)) (b .0)
+        ap (λ (t : Bool). check t (refused 6) (check (not (someLies e ds)) (refused 7) (applyWithin capacity (finalLength es n′) ds))) (le-leb (head es .flushed) n′ (omega arith))
+            ∙ ap (λ (t : Bool). check t (refused 7) (applyWithin capacity (finalLength es n′) ds)) (b .0)
             ∙ ap (λ (x : ℕ). applyWithin capacity x ds) l ∙ b .1,
         w .fits,
       )

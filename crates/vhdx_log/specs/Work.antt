@@ -6,6 +6,7 @@ use mathlib.Core.List.{List, [], _∷_, _++_}
 use Prim.Native.Nat.{ℕ, zero, suc, _+_, _*_, _/_, _^_, max}
 use lib.Dec.{eqb, leb}
 use lib.ListN.{length, replicate}
+use Rattle.decision.specs.Refusal.{check}
 use Rattle.extent.specs.declared.Extent.{Extent}
 use Rattle.extent.specs.Extent.{MiB, shares}
 use Rattle.vhdx_entry.specs.Ring.{sectorSize}
@@ -94,22 +95,17 @@ abbrev pub count : Plan → ℕ
 count (refused c) = 0
 count (apply n ss) = length ss
 
--- a test that fails refuses by its number
-abbrev pub check : Bool → ℕ → Plan → Plan
-check true c p = p
-check false c p = refused c
-
 -- "128 TiB (house limit)"
 abbrev pub lengthLimit : ℕ
 lengthLimit = 128 * 2 ^ 40
 
 -- 8: "the final length is above the buffer's or above 128 TiB"
 abbrev pub applyWithin : ℕ → ℕ → List Sector → Plan
-applyWithin capacity final ss = check (leb final capacity && leb final lengthLimit) 8 (apply final ss)
+applyWithin capacity final ss = check (leb final capacity && leb final lengthLimit) (refused 8) (apply final ss)
 
 -- 6: "length below the active head's FlushedFileOffset"; 7: "a sector to be written lies in the first MiB or in the log"
 unfoldable pub work : Extent → Entries → ℕ → ℕ → Plan
 work log es n capacity =
-    check (leb (head es .flushed) n) 6
-    (check (not (someLies log (sectors (allDescriptors es)))) 7
+    check (leb (head es .flushed) n) (refused 6)
+    (check (not (someLies log (sectors (allDescriptors es)))) (refused 7)
     (applyWithin capacity (finalLength es n) (sectors (allDescriptors es))))

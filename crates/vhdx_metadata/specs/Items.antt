@@ -73,7 +73,7 @@ contents r =
 
 -- the items of a region, or refusal 12 or 13
 unfoldable pub items : List ℕ → Outcome Items
-items r = check (metadataRule r) 12 (check (neededRule r) 13 (answered (contents r)))
+items r = check (metadataRule r) (refused 12) (check (neededRule r) (refused 13) (answered (contents r)))
 
 -- what the code answers
 abbrev pub outcome : Answer → Outcome Items

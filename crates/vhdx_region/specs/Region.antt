@@ -139,7 +139,7 @@ bothFound t (some b) (some m) = answered (record { bat = extentOf (entry t b); m
 
 -- 10: "a region entry breaks its rule"
 unfoldable pub readTable : ℕ → Extent → List ℕ → Outcome Regions
-readTable n log t = check (entriesRule n log t) 10 (bothFound t (entryOf t batRow) (entryOf t metadataRow))
+readTable n log t = check (entriesRule n log t) (refused 10) (bothFound t (entryOf t batRow) (entryOf t metadataRow))
 
 -- "The first valid copy is used (house rule)." 9: "neither region table copy is valid"
 unfoldable pub regions : List ℕ → Extent → Outcome Regions

@@ -44,7 +44,7 @@ parentRule image f = not (f .«has_parent») || locatorRule (part image (f .loca
 
 -- 14: "an item's value is out of range"; 15: "BAT region too short"
 unfoldable pub judged : List ℕ → Facts → Outcome Facts
-judged image f = check (sizesRule f && parentRule image f) 14 (check (batRule f) 15 (answered f))
+judged image f = check (sizesRule f && parentRule image f) (refused 14) (check (batRule f) (refused 15) (answered f))
 
 -- 12 and 13, of the metadata region
 unfoldable pub withRegions : List ℕ → Regions → Outcome Facts
