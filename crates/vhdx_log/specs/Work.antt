@@ -1,7 +1,7 @@
 -- The log's work for a sequence that is already found, and refusals 6 to 8 (document 01, "The log", "Work", and "When the
 -- gate says no"). All is over plain values: the found entries, the log's extent, the image's length n, the buffer's length.
 -- Assumes nothing.
-use mathlib.Core.Bool.{Bool, true, false, cond, not, _&&_, _||_}
+use mathlib.Core.Bool.{Bool, false, cond, not, _&&_, _||_}
 use mathlib.Core.List.{List, [], _∷_, _++_}
 use Prim.Native.Nat.{ℕ, zero, suc, _+_, _*_, _/_, _^_, max}
 use lib.Dec.{eqb, leb}
