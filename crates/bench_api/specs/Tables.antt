@@ -2,8 +2,8 @@
 -- of the tables would have done before.
 -- Assumes nothing.
 use mathlib.Core.Bool.{Bool, true, false, cond}
-use mathlib.Core.List.{List}
-use Prim.Native.Nat.{ℕ}
+use mathlib.Core.List.{List, [], _∷_}
+use Prim.Native.Nat.{ℕ, _+_}
 use lib.Dec.{leb}
 use lib.ListN.{length, set}
 use Rattle.decision.specs.Refusal.{refused}
@@ -20,18 +20,27 @@ abbrev pub bit : Bool → ℕ
 bit false = 0
 bit true = 1
 
--- the facts, each in its slot of the answer
+-- numbers in the slots of the answer from slot i on
+unfoldable pub inSlots : ℕ → List ℕ → List ℕ → List ℕ
+inSlots i [] answer = answer
+inSlots i (x ∷ xs) answer = inSlots (i + 1) xs (set answer i x)
+
+-- the facts
 unfoldable pub factsIn : Facts → List ℕ → List ℕ
 factsIn f answer =
-    let sizes =
-    set
-    (set (set (set answer 0 (f .«logical_sector_size»)) 1 (f .«physical_sector_size»)) 2 (f .«block_size»))
-    3
-    (f .«disk_size») in
-    let identity = set (set (set sizes 4 (bit (f .«has_parent»))) 5 (f .«disk_id» .low)) 6 (f .«disk_id» .high) in
-    let regions =
-    set
-    (set (set (set identity 7 (f .bat .offset)) 8 (f .bat .length)) 9 (f .metadata .offset))
-    10
-    (f .metadata .length) in
-    set (set regions 11 (f .locator .offset)) 12 (f .locator .length)
+    inSlots 0
+    (f .«logical_sector_size»
+    ∷ f .«physical_sector_size»
+    ∷ f .«block_size»
+    ∷ f .«disk_size»
+    ∷ bit (f .«has_parent»)
+    ∷ f .«disk_id» .low
+    ∷ f .«disk_id» .high
+    ∷ f .bat .offset
+    ∷ f .bat .length
+    ∷ f .metadata .offset
+    ∷ f .metadata .length
+    ∷ f .locator .offset
+    ∷ f .locator .length
+    ∷ [])
+    answer
