@@ -53,6 +53,17 @@ fn with_region_in(size: usize, offset: u64, length: u64) -> u64 {
     })
 }
 
+/// What it answers with a BAT of a length, which its image holds, after a change to it.
+fn with_bat(length: u64, change: impl FnOnce(&mut Disk)) -> u64 {
+    after(|d| {
+        d.length = 7 * MIB;
+        for copy in &mut d.copies {
+            copy.region(BAT).length = length as u32;
+        }
+        change(d);
+    })
+}
+
 /// An identifier that nobody knows.
 fn unknown(n: u32) -> [u8; 16] {
     let mut id = *b"nobody knows ...";
@@ -533,12 +544,8 @@ fn block_sizes_are_powers_of_two_from_1_to_256_mib() {
 #[test]
 fn disk_sizes_are_whole_sectors_up_to_64_tib() {
     let with_disk = |sector: u32, n: u64| {
-        after(|d| {
-            // a BAT for 64 TiB of blocks of 256 MiB
-            d.length = 7 * MIB;
-            for copy in &mut d.copies {
-                copy.region(BAT).length = 4 << 20;
-            }
+        // enough for 64 TiB of blocks of 256 MiB
+        with_bat(4 * M, |d| {
             d.set(FILE_PARAMETERS, &[0, 0, 0, 16, 0, 0, 0, 0]);
             d.set(LOGICAL, &sector.to_le_bytes());
             d.set(DISK_SIZE, &n.to_le_bytes());
@@ -646,11 +653,7 @@ fn a_locators_entries_keys_and_values_lie_inside_it() {
 fn the_bat_holds_whole_chunks() {
     // 512-byte sectors and blocks of 1 MiB: ratio 4,096; 1 MiB holds 31 chunks of 4,097 entries, not 32
     let with_blocks = |blocks: u64, bat: u64| {
-        after(|d| {
-            d.length = 7 * MIB;
-            for copy in &mut d.copies {
-                copy.region(BAT).length = bat as u32;
-            }
+        with_bat(bat, |d| {
             d.set(FILE_PARAMETERS, &[0, 0, 16, 0, 0, 0, 0, 0]);
             d.set(DISK_SIZE, &(blocks * M).to_le_bytes());
         })

@@ -1,6 +1,6 @@
 -- What the rules of a metadata region say of its entries, and where its items lie.
 -- Assumes nothing.
-use mathlib.Core.Path.{_≡_, refl, sym, ap, subst, _∙_}
+use mathlib.Core.Path.{_≡_, refl, sym, ap, _∙_}
 use mathlib.Core.Bool.{Bool, true, false, cond, not, _&&_, _||_, and-eq-true-iff}
 use mathlib.Core.List.{List}
 use mathlib.Core.Option.{Option, none, some}
@@ -18,7 +18,7 @@ use Rattle.field.specs.declared.Guid.{Guid}
 use Rattle.field.specs.Fields.{field, starts, guidAt, number}
 use Rattle.field.proofs.Laws.{number-at}
 use Rattle.extent.specs.declared.Extent.{Extent}
-use Rattle.extent.specs.Extent.{MiB, inside, nowhere}
+use Rattle.extent.specs.Extent.{MiB, inside}
 use Rattle.guid.specs.Stored.{rowOf}
 use Rattle.vhdx_metadata.specs.Known.{knownItems, knownLengths, anyLength, parentLocator}
 use Rattle.vhdx_metadata.specs.Table.{metadata, entryCount, tableRule, entry, itemOffset, itemLength, itemExtent, isUser, lengthRule, offsetRule, locationRule, uniqueRule, isKnown, requiredRule, ownRule, entryRule, entriesRule, metadataRule}
@@ -120,32 +120,11 @@ readable r h row b =
     let five = both (every 5 (isThere r)) (not (hasParent r) || isThere r parentLocator) (h .2) .0 in
     (holds-table r (h .1) (h .0), h .1, b, every-at (isThere r) 5 row five b)
 
--- ---- what is known where items are answered
-
-pub record Placed (r : List ℕ) (m : Items) : Type 0 where
-  pub kept : metadataRule r ≡ true
-  pub needed : neededRule r ≡ true
-  pub said : m ≡ contents r
-  pub parent : m .«has_parent» ≡ hasParent r
-  pub with-parent : m .«has_parent» ≡ true → m .locator ≡ extentOf r parentLocator
-  pub locator-inside : m .locator .offset + m .locator .length ≤ length r
-
-locator-placed : (r : List ℕ) → metadataRule r ≡ true → (t : Bool) → cond t (extentOf r parentLocator) nowhere .offset + cond t (extentOf r parentLocator) nowhere .length ≤ length r
-locator-placed r h true = extent-inside r h parentLocator refl
-locator-placed r h false = omega arith
-
-pub placed : (r : List ℕ) {m : Items} → items r ≡ answered m → Placed r m
+-- where items are answered, the locator lies inside the region, also where it is nowhere
+pub locator-inside : (r : List ℕ) {m : Items} → items r ≡ answered m → m .locator .offset + m .locator .length ≤ length r
 unfolding items contents
-placed r {m} e =
+locator-inside r {m} e =
     let p = check-answered (metadataRule r) 12 _ e in
     let q = check-answered (neededRule r) 13 _ (p .1) in
     let same : contents r ≡ m = cc (q .1) in
-    subst (Placed r) same
-    (record {
-      kept = p .0;
-      needed = q .0;
-      said = refl;
-      parent = refl;
-      with-parent = λ t. rw t;
-      locator-inside = locator-placed r (p .0) (hasParent r);
-    })
+    extent-inside r (p .0) parentLocator (ap (λ (x : Items). x .locator) (sym same))

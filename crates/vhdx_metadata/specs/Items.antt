@@ -1,6 +1,6 @@
 -- The items of the metadata region, refusal 13, and their values (document 01, "Regions and items"; MS-VHDX 2.6.2).
 -- Assumes nothing.
-use mathlib.Core.Bool.{Bool, false, cond, not, _&&_, _||_}
+use mathlib.Core.Bool.{Bool, false, not, _&&_, _||_}
 use mathlib.Core.List.{List}
 use mathlib.Core.Option.{Option, none, some}
 use Prim.Native.Nat.{ℕ, _/_, _%_}
@@ -58,7 +58,7 @@ hasParent r = eqb (field (itemOf r fileParameters) 4 4 / 2 % 2) 1
 unfoldable pub neededRule : List ℕ → Bool
 neededRule r = every 5 (isThere r) && (not (hasParent r) || isThere r parentLocator)
 
--- what the items say; "the locator's place is zero without a parent"
+-- what the items say, and where the locator lies in the region, if there is one
 unfoldable pub contents : List ℕ → Items
 contents r =
     record {
@@ -68,7 +68,7 @@ contents r =
       «logical_sector_size» = field (itemOf r logicalSectorSize) 0 4;
       «physical_sector_size» = field (itemOf r physicalSectorSize) 0 4;
       «disk_id» = guidAt (itemOf r diskIdentifier) 0;
-      locator = cond (hasParent r) (extentOf r parentLocator) nowhere;
+      locator = extentOf r parentLocator;
     }
 
 -- the items of a region, or refusal 12 or 13

@@ -4,13 +4,12 @@ use crate::known;
 use crate::table;
 use decision::Index;
 use extent::Extent;
-ghost use mathlib.Core.Bool.{true, cond};
+ghost use mathlib.Core.Bool.{true};
 ghost use mathlib.Core.Path.{_≡_};
 ghost use Prim.Native.Nat.{_≤_, _<_};
 ghost use lib.ListN.{length as lengthOf, getD};
 ghost use Rattle.decision.specs.Bounded.{every};
-ghost use Rattle.extent.specs.Extent.{nowhere};
-ghost use Rattle.vhdx_metadata.specs.Known.{knownLengths, parentLocator};
+ghost use Rattle.vhdx_metadata.specs.Known.{knownLengths};
 ghost use Rattle.vhdx_metadata.specs.Table.{tableRule, metadataRule};
 ghost use Rattle.vhdx_metadata.specs.Items.{hasItsLength, isThere, extentOf, itemOf, hasParent, neededRule};
 
@@ -53,7 +52,7 @@ fn five_are_there(region: &[u8]) -> bool
 }
 
 // Where the known item in this row lies.
-fn extent(region: &[u8], row: usize) -> Extent
+pub fn extent(region: &[u8], row: usize) -> Extent
     requires { ⌜ (65536 ≤ lengthOf (now region)) × (tableRule (now region) ≡ true) × (row < 6) ⌝ }
     ensures { λ r. ⌜ r ≡ extentOf (now (region .entry)) row ⌝ }
 {
@@ -91,17 +90,5 @@ pub fn needed_are_there(region: &[u8]) -> bool
         is_there(region, known::PARENT_LOCATOR)
     } else {
         true
-    }
-}
-
-// Where the parent locator lies; nowhere without a parent.
-pub fn locator(region: &[u8], has_parent: bool) -> Extent
-    requires { ⌜ (65536 ≤ lengthOf (now region)) × (tableRule (now region) ≡ true) ⌝ }
-    ensures { λ r. ⌜ r ≡ cond «has_parent» (extentOf (now (region .entry)) parentLocator) nowhere ⌝ }
-{
-    if has_parent {
-        extent(region, known::PARENT_LOCATOR)
-    } else {
-        extent::nowhere()
     }
 }

@@ -16,7 +16,7 @@ ghost use Rattle.extent.specs.Extent.{MiB};
 ghost use Rattle.vhdx_metadata.specs.Table.{metadataRule};
 ghost use Rattle.vhdx_metadata.specs.Items.{neededRule, contents as contentsOf, items, outcome};
 
-// What the items say. The locator's extent is in the region.
+// What the items say. The locator's extent is in the region, and nowhere if there is no such item.
 pub struct Items {
     pub block_size: u64,
     pub has_parent: bool,
@@ -66,6 +66,6 @@ fn contents(region: &[u8]) -> Items
             0,
         ) as u64,
         disk_id: field::guid_at(item::bytes(region, known::DISK_IDENTIFIER), 0),
-        locator: item::locator(region, has_parent),
+        locator: item::extent(region, known::PARENT_LOCATOR),
     }
 }

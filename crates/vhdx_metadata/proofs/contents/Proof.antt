@@ -59,11 +59,11 @@ guid-at-requires : tie.Need-guid-at-requires
 unfolding knownLengths
 guid-at-requires c κs = omega (arith, c .bytes5 .ensures .1)
 
-locator-requires : tie.Need-locator-requires
-locator-requires c κs =
+extent-requires : tie.Need-extent-requires
+extent-requires c κs =
     let s = c .before .before .before .before .before .before .before .before .before .before .before .before in
     let p = readable (s .args .region .now) (s .pre) 0 (omega arith) in
-    (p .0, table-kept (s .args .region .now) (p .1))
+    (p .0, table-kept (s .args .region .now) (p .1), omega arith)
 
 returns : tie.Need-returns
 unfolding contents
@@ -72,7 +72,7 @@ returns c =
     let size = physical .before .before .before .before in
     let head = size .before .before in
     simp (
-      c .locator .ensures,
+      c .extent .ensures,
       c .before .guid-at .ensures,
       c .before .before .bytes5 .ensures .0,
       physical .u32-at3 .ensures,
@@ -104,5 +104,5 @@ contents-spec =
     (λ c. search needs)
     bytes-requires-5
     guid-at-requires
-    locator-requires
+    extent-requires
     returns)

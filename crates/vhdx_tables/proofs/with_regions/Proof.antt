@@ -12,7 +12,7 @@ use Rattle.vhdx_facts.specs.declared.Facts.{Facts}
 use Rattle.vhdx_region.specs.declared.Regions.{Regions}
 use Rattle.vhdx_metadata.specs.declared.Items.{Items}
 use Rattle.vhdx_metadata.specs.Items.{items, outcome}
-use Rattle.vhdx_metadata.proofs.Laws.{placed}
+use Rattle.vhdx_metadata.proofs.Laws.{locator-inside}
 use Rattle.vhdx_tables.specs.Tables.{locatorExtent, factsOf, withRegions}
 use borrow.Author.Needs.{needs}
 use Rattle.vhdx_tables.proofs.with_regions.Statement.{statement}
@@ -31,7 +31,7 @@ facts-in-image g m {n = n} e p q =
 
 -- the locator of the items that were read in a part of the image
 in-region : (region : List ℕ) (k : ℕ) {m : Items} → length region ≡ k → items region ≡ answered m → m .locator .offset + m .locator .length ≤ k
-in-region region k e h = omega (arith, placed region h .locator-inside)
+in-region region k e h = omega (arith, locator-inside region h)
 
 facts-requires : tie.Need-facts-requires
 facts-requires c κs =
