@@ -32,3 +32,7 @@ nowhere = record { offset = 0; length = 0 }
 -- the bytes of a list that an extent names
 unfoldable pub part : List ℕ → Extent → List ℕ
 part bytes e = take (e .length) (drop (e .offset) bytes)
+
+-- the memory n bytes behind a pointer, which is a block and an offset in it
+abbrev pub onward : ℕ × ℕ → ℕ → ℕ × ℕ
+onward p n = (p .0, p .1 + n)

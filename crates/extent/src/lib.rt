@@ -2,7 +2,7 @@
 ghost use mathlib.Core.Path.{_≡_};
 ghost use Prim.Native.Nat.{_+_, _≤_};
 ghost use lib.ListN.{length as lengthOf};
-ghost use Rattle.extent.specs.Extent.{wholeMiB, inside, shares, nowhere as nowhereAt, part as partOf};
+ghost use Rattle.extent.specs.Extent.{wholeMiB, inside, shares, nowhere as nowhereAt, part as partOf, onward};
 
 pub const MIB: u64 = 1048576;
 
@@ -37,11 +37,12 @@ pub fn is_inside(offset: u64, length: u64, size: u64) -> bool
     length <= size - offset
 }
 
-// The bytes that an extent names.
+// The bytes that an extent names: no copy, but the very part of the slice, which starts at the extent's offset.
 pub fn part(bytes: &[u8], e: Extent) -> &[u8]
     requires { ⌜ e .offset + e .length ≤ lengthOf (now bytes) ⌝ }
     ensures { λ r. ⌜ now r ≡ partOf (now (bytes .entry)) e ⌝ }
     ensures { λ r. ⌜ lengthOf (now r) ≡ e .length ⌝ }
+    ensures { λ r. ⌜ r .ptr ≡ onward (bytes .entry .ptr) (e .offset) ⌝ }
 {
     let start = e.offset as usize;
     let end = start + e.length as usize;

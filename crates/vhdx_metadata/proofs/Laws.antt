@@ -48,11 +48,13 @@ offset-inside n p h = go (eqb (p .length) 0) refl h
         omega arith
     go false e h = leb-true (p .offset + p .length) n (both (leb 65536 (p .offset)) (inside (p .offset) (p .length) n) h .1)
 
+pub location-inside : (n : ℕ) (p : Extent) → locationRule n p ≡ true → p .offset + p .length ≤ n
+unfolding locationRule
+location-inside n p h = offset-inside n p (both (lengthRule p) (offsetRule n p) h .1)
+
 own-inside : (n : ℕ) (e : List ℕ) → ownRule n e ≡ true → itemOffset e + itemLength e ≤ n
-unfolding ownRule locationRule
-own-inside n e h =
-    let p = both (lengthRule (itemExtent e) && offsetRule n (itemExtent e)) (requiredRule e) h in
-    offset-inside n (itemExtent e) (both (lengthRule (itemExtent e)) (offsetRule n (itemExtent e)) (p .0) .1)
+unfolding ownRule
+own-inside n e h = location-inside n (itemExtent e) (both (locationRule n (itemExtent e)) (requiredRule e) h .0)
 
 -- ---- the entries of a table
 

@@ -38,7 +38,7 @@ pub record Found (n : ℕ) (g : Regions) : Type 0 where
   pub metadata-placed : Placed n (g .metadata)
   pub apart : Apart (g .bat) (g .metadata)
 
-placed-by : (n : ℕ) (p : Extent) → locationRule n p ≡ true → Placed n p
+pub placed-by : (n : ℕ) (p : Extent) → locationRule n p ≡ true → Placed n p
 unfolding locationRule
 placed-by n p h =
     let r₁ = and-eq-true-iff (offsetRule p) _ .0 h in

@@ -37,14 +37,14 @@ facts-requires : tie.Need-facts-requires
 facts-requires c κs =
     let r = c .before .before .before in
     let s = r .before .before .before .before in
-    let h = in-region (r .before .part .result .now) (s .args .regions .metadata .length) (r .before .part .ensures .1) (sym (r .read .ensures) ∙ ap outcome (c .before .items .given .1)) in
+    let h = in-region (r .before .part .result .now) (s .args .regions .metadata .length) (r .before .part .ensures .1 .0) (sym (r .read .ensures) ∙ ap outcome (c .before .items .given .1)) in
     omega (arith, h, s .pre .0, s .good)
 
 judge-requires : tie.Need-judge-requires
 judge-requires c κs =
     let r = c .before .before .before .before in
     let s = r .before .before .before .before in
-    let h = in-region (r .before .part .result .now) (s .args .regions .metadata .length) (r .before .part .ensures .1) (sym (r .read .ensures) ∙ ap outcome (c .before .before .items .given .1)) in
+    let h = in-region (r .before .part .result .now) (s .args .regions .metadata .length) (r .before .part .ensures .1 .0) (sym (r .read .ensures) ∙ ap outcome (c .before .before .items .given .1)) in
     facts-in-image (s .args .regions) _ (c .facts .ensures) h (s .pre .0)
 
 returns : tie.Need-returns

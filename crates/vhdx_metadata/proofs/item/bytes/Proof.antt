@@ -25,7 +25,7 @@ returns c =
     let s = c .before .before .before in
     let e = c .before .extent .ensures in (
       c .part .ensures .0 ∙ ap (part (s .args .region .now)) e,
-      c .part .ensures .1 ∙ ap (λ (x : Extent). x .length) e ∙ extent-fixed (s .args .region .now) (s .args .row) (s .pre .2) (s .pre .3),
+      c .part .ensures .1 .0 ∙ ap (λ (x : Extent). x .length) e ∙ extent-fixed (s .args .region .now) (s .args .row) (s .pre .2) (s .pre .3),
     )
 
 pub bytes-spec : {M : Type 1} → statement M
