@@ -1,10 +1,10 @@
 -- What is known of facts whose sizes are in their ranges: the sizes, and how many blocks, chunks and entries there are.
 -- Assumes nothing.
-use mathlib.Core.Path.{_≡_}
-use mathlib.Core.Bool.{Bool, true, _||_, and-eq-true-iff}
+use mathlib.Core.Path.{_≡_, refl, ap, _∙_}
+use mathlib.Core.Bool.{Bool, true, _&&_, _||_, and-eq-true-iff}
 use mathlib.Core.Logic.{_⊎_, inl, inr, ⊎-elim}
 use Prim.Native.Nat.{ℕ, _+_, _-_, _*_, _%_, _^_, _≤_, _<_}
-use native.Mathlib.Nat.{mul-le-mul, pow-le-pow-right, le-div-iff-mul-le, div-lt-iff-lt-mul, div-le-of-le-mul}
+use native.Mathlib.Nat.{mul-le-mul, le-div-iff-mul-le, div-lt-iff-lt-mul, div-le-of-le-mul}
 use native.Mathlib.Omega.{arith}
 use lib.Dec.{eqb, leb}
 use borrow.Author.Tests.{eqb-true, leb-true}
@@ -20,9 +20,12 @@ pub record Sizes (f : Facts) : Type 0 where
   pub sector : (f .«logical_sector_size» ≡ 512) ⊎ (f .«logical_sector_size» ≡ 4096)
   pub sector-least : 512 ≤ f .«logical_sector_size»
   pub sector-most : f .«logical_sector_size» ≤ 4096
+  pub sector-kept : sectorSizeRule (f .«logical_sector_size») ≡ true
+  pub block-kept : blockSizeRule (f .«block_size») ≡ true
   pub block-whole : f .«block_size» % MiB ≡ 0
   pub block-least : MiB ≤ f .«block_size»
   pub block-most : f .«block_size» ≤ 256 * MiB
+  pub block-divides : 2 ^ 32 % f .«block_size» ≡ 0
   pub disk-whole : f .«disk_size» % f .«logical_sector_size» ≡ 0
   pub disk-least : f .«logical_sector_size» ≤ f .«disk_size»
   pub disk-most : f .«disk_size» ≤ diskSizeLimit
@@ -33,36 +36,39 @@ sector-sizes n h = ⊎-elim (λ e. inl (eqb-true n 512 e)) (λ e. inr (eqb-true 
 sector-range : (n : ℕ) → (n ≡ 512) ⊎ (n ≡ 4096) → (512 ≤ n) × (n ≤ 4096)
 sector-range n = ⊎-elim (λ e. omega arith) (λ e. omega arith)
 
-pub sector-above : (n : ℕ) → sectorSizeRule n ≡ true → 0 < n
-sector-above n h = omega (arith, sector-range n (sector-sizes n h))
+pub sector-size-else : (n : ℕ) → sectorSizeRule n ≡ true → (n ≡ 512 → ⊥) → n ≡ 4096
+sector-size-else n h other = ⊎-elim (λ e. absurd (other e)) (λ e. e) (sector-sizes n h)
 
--- a power of two from 1 to 256 MiB
-abbrev Power : ℕ → Type 0
-Power n = (k : ℕ) × (k ≤ 8) × (n ≡ 2 ^ k * MiB)
+-- what is tested of each block size: it is a multiple of 1 MiB, from 1 to 256 MiB, and divides 2^32
+good : ℕ → Bool
+good n = eqb (n % MiB) 0 && (leb MiB n && (leb n (256 * MiB) && eqb (2 ^ 32 % n) 0))
 
-this : (n k : ℕ) → k ≤ 8 → eqb n (2 ^ k * MiB) ≡ true → Power n
-this n k h e = (k, h, eqb-true n (2 ^ k * MiB) e)
+this : (n m : ℕ) → good m ≡ true → eqb n m ≡ true → good n ≡ true
+this n m g e = ap good (eqb-true n m e) ∙ g
 
-or-later : (n k : ℕ) (later : Bool) → k ≤ 8 → (later ≡ true → Power n) → (eqb n (2 ^ k * MiB) || later) ≡ true → Power n
-or-later n k later h go e = ⊎-elim (this n k h) go (either (eqb n (2 ^ k * MiB)) later e)
+or-later : (n m : ℕ) (later : Bool) → good m ≡ true → (later ≡ true → good n ≡ true) → (eqb n m || later) ≡ true → good n ≡ true
+or-later n m later g go e = ⊎-elim (this n m g) go (either (eqb n m) later e)
 
-power : (n : ℕ) → blockSizeRule n ≡ true → Power n
-power n =
-    or-later n 0 _ (omega arith)
-    (or-later n 1 _ (omega arith)
-    (or-later n 2 _ (omega arith)
-    (or-later n 3 _ (omega arith)
-    (or-later n 4 _ (omega arith)
-    (or-later n 5 _ (omega arith)
-    (or-later n 6 _ (omega arith)
-    (or-later n 7 _ (omega arith)
-    (this n 8 (omega arith)))))))))
+all-good : (n : ℕ) → blockSizeRule n ≡ true → good n ≡ true
+unfolding good
+all-good n =
+    or-later n (2 ^ 0 * MiB) _ refl
+    (or-later n (2 ^ 1 * MiB) _ refl
+    (or-later n (2 ^ 2 * MiB) _ refl
+    (or-later n (2 ^ 3 * MiB) _ refl
+    (or-later n (2 ^ 4 * MiB) _ refl
+    (or-later n (2 ^ 5 * MiB) _ refl
+    (or-later n (2 ^ 6 * MiB) _ refl
+    (or-later n (2 ^ 7 * MiB) _ refl
+    (this n (2 ^ 8 * MiB) refl))))))))
 
-power-range : {n : ℕ} → Power n → (n % MiB ≡ 0) × (MiB ≤ n) × (n ≤ 256 * MiB)
-power-range (k, h, e) =
-    let low : 2 ^ 0 ≤ 2 ^ k = pow-le-pow-right (omega arith) {i = 0} {j = k} (omega arith) in
-    let high : 2 ^ k ≤ 2 ^ 8 = pow-le-pow-right (omega arith) {i = k} {j = 8} h in
-    (omega arith, omega arith, omega arith)
+block-range : (n : ℕ) → good n ≡ true → (n % MiB ≡ 0) × (MiB ≤ n) × (n ≤ 256 * MiB) × (2 ^ 32 % n ≡ 0)
+unfolding good
+block-range n h =
+    let p = and-eq-true-iff (eqb (n % MiB) 0) _ .0 h in
+    let q = and-eq-true-iff (leb MiB n) _ .0 (p .1) in
+    let r = and-eq-true-iff (leb n (256 * MiB)) (eqb (2 ^ 32 % n) 0) .0 (q .1) in
+    (eqb-true (n % MiB) 0 (p .0), leb-true MiB n (q .0), leb-true n (256 * MiB) (r .0), eqb-true (2 ^ 32 % n) 0 (r .1))
 
 pub sizes : (f : Facts) → sizesRule f ≡ true → Sizes f
 unfolding sizesRule diskSizeRule
@@ -73,14 +79,17 @@ sizes f h =
     let whole = and-eq-true-iff (eqb (f .«disk_size» % f .«logical_sector_size») 0) _ .0 (r .1) in
     let range = and-eq-true-iff (leb (f .«logical_sector_size») (f .«disk_size»)) (leb (f .«disk_size») diskSizeLimit) .0 (whole .1) in
     let sector = sector-sizes (f .«logical_sector_size») (p .0) in
-    let block = power-range (power (f .«block_size») (r .0)) in
+    let block = block-range (f .«block_size») (all-good (f .«block_size») (r .0)) in
     record {
       sector = sector;
       sector-least = sector-range _ sector .0;
       sector-most = sector-range _ sector .1;
+      sector-kept = p .0;
+      block-kept = r .0;
       block-whole = block .0;
       block-least = block .1;
       block-most = block .2;
+      block-divides = block .3;
       disk-whole = eqb-true _ _ (whole .0);
       disk-least = leb-true _ _ (range .0);
       disk-most = leb-true _ _ (range .1);

@@ -1,5 +1,7 @@
--- `vhdx_facts::geometry::ratio` meets its contract: a sector has at most 4,096 bytes, a block at least 1 MiB.
+-- `vhdx_facts::geometry::ratio` meets its contract: a sector has at most 4,096 bytes; a shift by the logarithm divides.
 -- Assumes nothing.
+use mathlib.Core.Path.{ap}
+use Prim.Native.Nat.{ℕ, _*_, _/_, _^_}
 use native.Mathlib.Omega.{arith}
 use Rattle.vhdx_facts.specs.Geometry.{ratio}
 use Rattle.vhdx_facts.proofs.Laws.{sizes}
@@ -10,12 +12,12 @@ use Rattle.vhdx_facts.proofs.geometry.ratio.Tie as tie
 mul-result : tie.Need-mul-result
 mul-result c = record { fits = omega (arith, sizes (c .before .args .facts) (c .before .pre)) }
 
-div-result : tie.Need-div-result
-div-result c = omega (arith, sizes (c .before .before .args .facts) (c .before .before .pre))
-
 returns : tie.Need-returns
 unfolding ratio
-returns c = search needs
+returns c =
+    let s = c .before .before in
+    let f = s .args .facts in
+    ap (λ (b : ℕ). 2 ^ 23 * f .«logical_sector_size» / b) (c .block-shift .ensures .1 .0 (sizes f (s .pre) .block-kept))
 
 pub ratio-spec : {M : Type 1} → statement M
-ratio-spec = tie.close (tie.spec mul-result div-result returns)
+ratio-spec = tie.close (tie.spec mul-result (λ c κs. search needs) (λ c. search needs) (λ c. search needs) returns)

@@ -7,7 +7,7 @@ use Rattle.vhdx_facts.proofs.ranges.is_disk_size.Tie as tie
 
 returns : tie.Need-returns
 unfolding diskSizeRule
-returns c = search needs
+returns c = simp (c .is-whole-sectors .ensures)
 
 pub is-disk-size-spec : {M : Type 1} → statement M
-is-disk-size-spec = tie.close (tie.spec (λ c. search needs) returns)
+is-disk-size-spec = tie.close (tie.spec (λ c κs. search needs) returns)

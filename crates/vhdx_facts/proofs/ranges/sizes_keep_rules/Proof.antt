@@ -3,7 +3,6 @@
 use mathlib.Core.Path.{sym, _∙_}
 use borrow.Author.Tests.{not-true, not-false}
 use Rattle.vhdx_facts.specs.Ranges.{sizesRule}
-use Rattle.vhdx_facts.proofs.Laws.{sector-above}
 use borrow.Author.Needs.{needs}
 use Rattle.vhdx_facts.proofs.ranges.sizes_keep_rules.Statement.{statement}
 use Rattle.vhdx_facts.proofs.ranges.sizes_keep_rules.Tie as tie
@@ -14,8 +13,7 @@ returns c = simp (sym (c .before .is-sector-size .ensures) ∙ not-true _ (c .if
 
 is-disk-size-requires : tie.Need-is-disk-size-requires
 is-disk-size-requires c κs =
-    sector-above (c .before .before .before .before .args .facts .«logical_sector_size»)
-    (sym (c .before .before .before .is-sector-size .ensures) ∙ not-false _ (c .before .before .if1 .left))
+    sym (c .before .before .before .is-sector-size .ensures) ∙ not-false _ (c .before .before .if1 .left)
 
 returns-2 : tie.Need-returns-2
 unfolding sizesRule
