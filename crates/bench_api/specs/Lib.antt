@@ -1,2 +1,3 @@
 pub mod Plans
 pub mod Tables
+pub mod Lookups

@@ -74,7 +74,7 @@ fn entry_of(item: &[u8], key: &[u8]) -> Index
     ensures { λ r. ⌜ found r ≡ entryOf (now (item .entry)) (now (key .entry)) ⌝ }
 {
     let count = count(item) as usize;
-    let mut i: usize = 0;
+    let mut i = 0;
     while i < count {
         if entry::has_key(item, i, key) {
             return Index::At(i);

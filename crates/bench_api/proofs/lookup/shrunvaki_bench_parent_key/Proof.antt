@@ -1,0 +1,26 @@
+-- `bench_api::lookup::shrunvaki_bench_parent_key` meets its contract: what the extent says.
+-- Assumes nothing.
+use mathlib.Core.Path.{ap, _∙_}
+use Rattle.extent.specs.declared.Extent.{Extent}
+use Rattle.vhdx_facts.specs.declared.Facts.{Facts}
+use Rattle.vhdx_parent.specs.Key.{keyExtent}
+use Rattle.bench_api.specs.Lookups.{extentIn}
+use borrow.Author.Needs.{needs}
+use Rattle.bench_api.proofs.lookup.shrunvaki_bench_parent_key.Statement.{statement}
+use Rattle.bench_api.proofs.lookup.shrunvaki_bench_parent_key.Tie as tie
+
+returns : tie.Need-returns
+returns c =
+    let a = c .before .before .before .before .args in
+    let e = c .value-extent .ensures ∙ ap (λ (f : Facts). keyExtent f (a .buffer .now) (a .length) (a .key .now)) (c .before .facts-from .ensures) in
+    ap (λ (x : Extent). extentIn x (a .answer .now)) e
+
+pub shrunvaki-bench-parent-key-spec : {M : Type 1} → statement M
+shrunvaki-bench-parent-key-spec =
+    tie.close
+    (tie.spec
+    (λ c κs. search needs)
+    (λ c κs. search needs)
+    (λ c. search needs)
+    (λ c. search needs)
+    returns)

@@ -1,0 +1,3 @@
+pub mod Entry
+pub mod Lookup
+pub mod Dependence
