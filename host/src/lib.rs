@@ -1,5 +1,8 @@
-//! The proved functions as safe Rust, and a builder of VHDX images for tests and benchmarks.
+//! The proved functions as safe Rust, a builder of VHDX images for tests and benchmarks, and a model to compare lookups with.
 pub mod api;
 pub mod image;
 pub mod measure;
+pub mod model;
+pub mod random;
+pub mod sample;
 pub mod tables;

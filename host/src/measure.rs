@@ -4,16 +4,30 @@ use crate::image::MIB;
 use std::hint::black_box;
 use std::time::{Duration, Instant};
 
+const RUNS: usize = 5;
+
+/// Of short work that is compared with other work: more, so that both meet a quiet moment.
+const RUNS_IN_TURN: usize = 15;
+
+fn once<T>(work: &mut impl FnMut() -> T) -> Duration {
+    let start = Instant::now();
+    black_box(work());
+    start.elapsed()
+}
+
 /// The best of some runs: what else the machine does only adds.
 pub fn time<T>(mut work: impl FnMut() -> T) -> Duration {
-    (0..5)
-        .map(|_| {
-            let start = Instant::now();
-            black_box(work());
-            start.elapsed()
-        })
-        .min()
-        .expect("some runs")
+    (0..RUNS).map(|_| once(&mut work)).min().expect("some runs")
+}
+
+/// The best of some runs of each of two, in turn: a slow moment of the machine meets both.
+pub fn time_in_turn<T, U>(
+    mut one: impl FnMut() -> T,
+    mut other: impl FnMut() -> U,
+) -> (Duration, Duration) {
+    (0..RUNS_IN_TURN).fold((Duration::MAX, Duration::MAX), |(a, b), _| {
+        (a.min(once(&mut one)), b.min(once(&mut other)))
+    })
 }
 
 /// One pass of the project's own CRC-32C over 64 MiB, which it prints.

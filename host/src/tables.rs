@@ -227,9 +227,13 @@ impl Disk {
     }
 }
 
+/// Text as a parent locator holds it.
+pub fn ucs2(text: &str) -> Vec<u8> {
+    text.encode_utf16().flat_map(u16::to_le_bytes).collect()
+}
+
 /// A parent locator: its header and entries, then keys and values one behind the other.
 pub fn locator(pairs: &[(&str, &str)]) -> Vec<u8> {
-    let ucs2 = |text: &str| -> Vec<u8> { text.encode_utf16().flat_map(u16::to_le_bytes).collect() };
     let mut out = stored(LOCATOR_TYPE).to_vec();
     out.extend([0; 2]);
     out.extend((pairs.len() as u16).to_le_bytes());

@@ -1,0 +1,86 @@
+//! A million lookups of random sectors on a disk of 100,000 blocks, the proved function and an ordinary Rust one in turn. Prints
+//! both rates and the ratio; exits with status 1 where the proved one has less than 0.7 of the other's rate.
+use shrunvaki_host::api::{self, Facts};
+use shrunvaki_host::measure::time_in_turn;
+use shrunvaki_host::model;
+use shrunvaki_host::random::Random;
+use shrunvaki_host::sample::{entry, small_disk, Sample, M};
+use std::hint::black_box;
+use std::time::Duration;
+
+const BLOCKS: u64 = 100_000;
+const SECTORS: u64 = 1_000_000;
+const LIMIT: f64 = 0.7;
+
+/// Sectors of 512 bytes and blocks of 1 MiB, so ratio 4,096.
+const RATIO: u64 = 4096;
+
+/// A disk with a parent, its payload entries in these states at random. Four bitmaps of random bits are at 3 to 7 MiB and four
+/// blocks behind them: entries name them again and again, which no rule forbids.
+fn disk(random: &mut Random, states: &[u64]) -> Sample {
+    let facts = Facts {
+        disk_size: BLOCKS * M,
+        ..small_disk(true)
+    };
+    let mut sample = Sample::new(facts, 11 * M, 11 * M);
+    for block in 0..BLOCKS {
+        let value = entry(7 + random.below(4), random.pick(states));
+        sample.set_entry(block + block / RATIO, value);
+    }
+    for chunk in 0..BLOCKS.div_ceil(RATIO) {
+        sample.set_entry(chunk * (RATIO + 1) + RATIO, entry(3 + chunk % 4, 6));
+    }
+    for byte in 0..4 * M {
+        sample.set_bits(3, byte, random.number() as u8);
+    }
+    sample
+}
+
+/// Prints how many lookups a second that is.
+fn report(name: &str, taken: Duration) {
+    let rate = SECTORS as f64 / taken.as_secs_f64() / 1e6;
+    println!("  {name}: {rate:.1} million lookups a second");
+}
+
+/// The rate of the proved lookup as a share of the other's.
+fn compare(name: &str, sample: &Sample, sectors: &[u64]) -> f64 {
+    for &sector in sectors {
+        sample.lookup(sector);
+    }
+    let slots = sample.facts.slots();
+    let (image, length) = (&sample.buffer, sample.length);
+    let (proved, plain) = time_in_turn(
+        || {
+            for &sector in sectors {
+                black_box(api::lookup_raw(black_box(&slots), image, length, sector));
+            }
+        },
+        || {
+            let facts = &sample.facts;
+            for &sector in sectors {
+                black_box(model::lookup(black_box(facts), image, length, sector));
+            }
+        },
+    );
+    println!("{name}:");
+    report("proved", proved);
+    report("plain", plain);
+    let ratio = plain.as_secs_f64() / proved.as_secs_f64();
+    println!("  proved / plain: {ratio:.2}");
+    ratio
+}
+
+fn main() {
+    let mut random = Random::new(1);
+    let sectors: Vec<u64> = (0..SECTORS)
+        .map(|_| random.below(BLOCKS * M / 512))
+        .collect();
+    let whole = disk(&mut random, &[6]);
+    compare("state 6 alone", &whole, &sectors);
+    let mixed = disk(&mut random, &[6, 7]);
+    let ratio = compare("states 6 and 7", &mixed, &sectors);
+    if ratio < LIMIT {
+        println!("below {LIMIT}");
+        std::process::exit(1);
+    }
+}
