@@ -49,7 +49,7 @@ pub fn is_disk_size(sector_size: u64, n: u64) -> bool
 }
 
 // Both divisors are written out: this is asked at every lookup, and a division by a number that is not known when the code is
-// compiled takes longer than all other tests there.
+// compiled is slow.
 fn is_whole_sectors(sector_size: u64, n: u64) -> bool
     requires { ⌜ sectorSizeRule «sector_size» ≡ true ⌝ }
     ensures { λ r. ⌜ r ≡ eqb (n % «sector_size») 0 ⌝ }
