@@ -6,9 +6,6 @@ use std::time::{Duration, Instant};
 
 const RUNS: usize = 5;
 
-/// Of short work that is compared with other work: more, so that both meet a quiet moment.
-const RUNS_IN_TURN: usize = 15;
-
 fn once<T>(work: &mut impl FnMut() -> T) -> Duration {
     let start = Instant::now();
     black_box(work());
@@ -20,14 +17,33 @@ pub fn time<T>(mut work: impl FnMut() -> T) -> Duration {
     (0..RUNS).map(|_| once(&mut work)).min().expect("some runs")
 }
 
-/// The best of some runs of each of two, in turn: a slow moment of the machine meets both.
-pub fn time_in_turn<T, U>(
-    mut one: impl FnMut() -> T,
-    mut other: impl FnMut() -> U,
-) -> (Duration, Duration) {
-    (0..RUNS_IN_TURN).fold((Duration::MAX, Duration::MAX), |(a, b), _| {
-        (a.min(once(&mut one)), b.min(once(&mut other)))
-    })
+/// How long two kinds of work take when they are done in turn: the medians of each, and of the second's time by the first's in
+/// the same turn.
+pub struct InTurn {
+    pub one: Duration,
+    pub other: Duration,
+    pub ratio: f64,
+}
+
+/// Turns are short and many. A slow moment of the machine meets both kinds in its turn, or is one of the few that the median
+/// leaves out: best times, each taken at another moment, would compare the moments.
+pub fn in_turn(turns: usize, mut one: impl FnMut(usize), mut other: impl FnMut(usize)) -> InTurn {
+    let (mut ones, mut others, mut ratios) = (Vec::new(), Vec::new(), Vec::new());
+    for turn in 0..turns {
+        let a = once(&mut || one(turn));
+        let b = once(&mut || other(turn));
+        ones.push(a);
+        others.push(b);
+        ratios.push(b.as_secs_f64() / a.as_secs_f64());
+    }
+    ones.sort();
+    others.sort();
+    ratios.sort_by(f64::total_cmp);
+    InTurn {
+        one: ones[turns / 2],
+        other: others[turns / 2],
+        ratio: ratios[turns / 2],
+    }
 }
 
 /// One pass of the project's own CRC-32C over 64 MiB, which it prints.
