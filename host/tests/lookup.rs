@@ -100,17 +100,8 @@ fn l6_the_bit_in_the_second_chunks_bitmap() {
 
 #[test]
 fn states_without_a_parent() {
-    let file = File(5 * M + 3 * 512);
-    let answers = [
-        Zero,
-        Zero,
-        Zero,
-        Zero,
-        Refused(18),
-        Refused(18),
-        file,
-        Refused(18),
-    ];
+    let (file, no) = (File(5 * M + 3 * 512), Refused(18));
+    let answers = [Zero, Zero, Zero, Zero, no, no, file, no];
     for (state, answer) in answers.into_iter().enumerate() {
         let sample = with_entry(false, entry(5, state as u64));
         assert_eq!(sample.lookup(3), answer, "state {state}");
@@ -119,17 +110,8 @@ fn states_without_a_parent() {
 
 #[test]
 fn states_with_a_parent() {
-    let file = File(5 * M + 3 * 512);
-    let answers = [
-        Parent,
-        Zero,
-        Zero,
-        Zero,
-        Refused(18),
-        Refused(18),
-        file,
-        Parent,
-    ];
+    let (file, no) = (File(5 * M + 3 * 512), Refused(18));
+    let answers = [Parent, Zero, Zero, Zero, no, no, file, Parent];
     for (state, answer) in answers.into_iter().enumerate() {
         let mut sample = with_bitmap(entry(3, 6));
         sample.set_entry(0, entry(5, state as u64));
