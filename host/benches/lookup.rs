@@ -1,11 +1,11 @@
 //! A million lookups of random sectors on a disk of 100,000 blocks, the proved function and an ordinary Rust one in turn. Prints
 //! both rates and the ratio, medians over many turns; exits with status 1 where the proved one has less than 0.7 of the other's
 //! rate.
-use shrunvaki_host::api::{self, Facts};
 use shrunvaki_host::measure::in_turn;
 use shrunvaki_host::model;
 use shrunvaki_host::random::Random;
 use shrunvaki_host::sample::{entry, small_disk, Sample, M};
+use shrunvaki_host::vhdx::{self, Facts};
 use std::hint::black_box;
 use std::time::Duration;
 
@@ -61,7 +61,7 @@ fn compare(name: &str, sample: &Sample, sectors: &[u64]) -> f64 {
         PASSES * pieces.len(),
         |turn| {
             for &sector in piece(turn) {
-                black_box(api::lookup_raw(black_box(&slots), image, length, sector));
+                black_box(vhdx::lookup_raw(black_box(&slots), image, length, sector));
             }
         },
         |turn| {

@@ -1,7 +1,11 @@
 //! VHDX images built from document 01 alone: headers, and log entries laid round the log's ring.
+use crate::tables::Disk;
 
 pub const MIB: usize = 1 << 20;
 pub const SECTOR: usize = 4096;
+
+/// Where the two headers are.
+pub const HEADERS: [usize; 2] = [65536, 131072];
 
 /// The identifier of every image's log here, unless a test says otherwise.
 pub const GUID: [u8; 16] = *b"the log's GUID..";
@@ -130,31 +134,51 @@ impl Entry {
     }
 }
 
-/// A buffer whose first `length` bytes are an image with its log at 1 MiB.
+/// A buffer whose first `length` bytes are an image.
 #[derive(Clone)]
 pub struct Image {
     pub buffer: Vec<u8>,
     pub length: u64,
+    pub log_offset: usize,
     pub log_length: usize,
 }
 
 impl Image {
+    /// With its log at 1 MiB.
     pub fn new(capacity: usize, length: u64, log_length: usize, guid: [u8; 16]) -> Image {
-        let mut buffer = vec![0; capacity];
-        buffer[..8].copy_from_slice(b"vhdxfile");
-        let header = &mut buffer[65536..65536 + SECTOR];
+        Image::with_log_at(MIB, capacity, length, log_length, guid)
+    }
+
+    pub fn with_log_at(
+        log_offset: usize,
+        capacity: usize,
+        length: u64,
+        log_length: usize,
+        guid: [u8; 16],
+    ) -> Image {
+        let mut image = Image {
+            buffer: vec![0; capacity],
+            length,
+            log_offset,
+            log_length,
+        };
+        image.buffer[..8].copy_from_slice(b"vhdxfile");
+        image.header(HEADERS[0], 1, guid);
+        image
+    }
+
+    /// Writes a header with a sequence number at an offset.
+    pub fn header(&mut self, at: usize, number: u64, guid: [u8; 16]) -> &mut Image {
+        let header = &mut self.buffer[at..at + SECTOR];
+        header.fill(0);
         header[..4].copy_from_slice(b"head");
-        put64(header, 8, 1);
+        put64(header, 8, number);
         header[48..64].copy_from_slice(&guid);
         header[66] = 1;
-        put32(header, 68, log_length as u32);
-        put64(header, 72, MIB as u64);
+        put32(header, 68, self.log_length as u32);
+        put64(header, 72, self.log_offset as u64);
         seal(header);
-        Image {
-            buffer,
-            length,
-            log_length,
-        }
+        self
     }
 
     /// An image of 3 MiB in a buffer of 4 MiB, with a log of 1 MiB.
@@ -163,11 +187,11 @@ impl Image {
     }
 
     pub fn log(&self) -> &[u8] {
-        &self.buffer[MIB..MIB + self.log_length]
+        &self.buffer[self.log_offset..self.log_offset + self.log_length]
     }
 
     pub fn log_mut(&mut self) -> &mut [u8] {
-        &mut self.buffer[MIB..MIB + self.log_length]
+        &mut self.buffer[self.log_offset..self.log_offset + self.log_length]
     }
 
     /// Lays bytes into the ring from a sector on, past its end at its start again.
@@ -183,5 +207,16 @@ impl Image {
 
     pub fn entry(&mut self, sector: usize, entry: &Entry) -> &mut Image {
         self.lay(sector, &entry.bytes())
+    }
+
+    /// Copies a disk's tables, as far as the image holds them.
+    pub fn tables(&mut self, disk: &Disk) -> &mut Image {
+        let bytes = disk.bytes();
+        let end = bytes.len().min(self.length as usize);
+        let first_mib = 196608..196608 + 2 * 65536;
+        for part in [first_mib, disk.metadata_at as usize..end] {
+            self.buffer[part.clone()].copy_from_slice(&bytes[part]);
+        }
+        self
     }
 }

@@ -1,7 +1,7 @@
 //! Lookup and parent key in ordinary Rust, written from document 01 alone: what tests compare the proved functions with, and
 //! what the benchmark measures them against.
-use crate::api::{Extent, Facts, Lookup};
 use crate::tables::{stored, LOCATOR_TYPE};
+use crate::vhdx::{Extent, Facts, Lookup};
 
 const MIB: u64 = 1 << 20;
 const TIB: u64 = 1 << 40;

@@ -27,6 +27,14 @@ impl Random {
         self.below(calls) == 0
     }
 
+    /// Fills bytes with random ones.
+    pub fn fill(&mut self, bytes: &mut [u8]) {
+        for piece in bytes.chunks_mut(8) {
+            let number = self.number().to_le_bytes();
+            piece.copy_from_slice(&number[..piece.len()]);
+        }
+    }
+
     pub fn pick<T: Copy>(&mut self, values: &[T]) -> T {
         values[self.below(values.len() as u64) as usize]
     }

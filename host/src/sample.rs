@@ -1,9 +1,9 @@
 //! Facts, and the image that they describe, for lookups and parent keys: a test writes the BAT entries and bitmaps that it needs,
 //! and none of the tables that facts are usually read from. Beside them the facts that refusal 16 forbids.
 
-use crate::api::{self, Extent, Facts, Lookup};
 use crate::image::put64;
 use crate::model;
+use crate::vhdx::{self, Extent, Facts, Lookup};
 
 pub const M: u64 = 1 << 20;
 pub const TIB: u64 = 1 << 40;
@@ -94,7 +94,7 @@ impl Sample {
 
     /// Where a sector is: the proved answer, which the model has to share.
     pub fn lookup(&self, sector: u64) -> Lookup {
-        let answer = api::lookup(&self.facts, &self.buffer, self.length, sector);
+        let answer = vhdx::lookup(&self.facts, &self.buffer, self.length, sector);
         let model = model::lookup(&self.facts, &self.buffer, self.length, sector);
         assert_eq!(answer, model, "sector {sector} of {:?}", self.facts);
         answer
@@ -102,7 +102,7 @@ impl Sample {
 
     /// Where a key's value is: the proved answer, which the model has to share.
     pub fn parent_key(&self, key: &[u8]) -> Extent {
-        let answer = api::parent_key(&self.facts, &self.buffer, self.length, key);
+        let answer = vhdx::parent_key(&self.facts, &self.buffer, self.length, key);
         let model = model::parent_key(&self.facts, &self.buffer, self.length, key);
         assert_eq!(answer, model, "key {key:?} of {:?}", self.facts);
         answer

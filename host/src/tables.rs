@@ -1,7 +1,7 @@
 //! The tables of a VHDX image, built from document 01 alone: both copies of the region table, the metadata table, its items.
 
-use crate::api::Extent;
 use crate::image::{put32, put64, seal, MIB};
+use crate::vhdx::Extent;
 
 const M: u64 = MIB as u64;
 

@@ -2,22 +2,12 @@
 //! ranges at the limits. Each expected answer is written from document 01.
 use shrunvaki_host::api::{self, Plan, Sector};
 use shrunvaki_host::image::{seal, Descriptor, Entry, Image, GUID, MIB, SECTOR};
+use shrunvaki_host::pending::{pattern, zero};
 
 const M: u64 = MIB as u64;
 
 fn plan(image: &Image) -> Plan {
     api::plan(&image.buffer, image.length)
-}
-
-fn zero(offset: u64, length: u64) -> Descriptor {
-    Descriptor::Zero { offset, length }
-}
-
-/// A sector of bytes that differ from place to place and from seed to seed.
-fn pattern(seed: u8) -> Vec<u8> {
-    (0..SECTOR)
-        .map(|i| (i as u8).wrapping_mul(31).wrapping_add((i >> 8) as u8) ^ seed)
-        .collect()
 }
 
 /// The plan's sectors: offset and bytes, read where the walk says they are.

@@ -1,8 +1,9 @@
 //! Values of a parent locator on real bytes: where each lies, and every reason for there being none. Each expected answer is
 //! written from document 01, and the model in `host/src/model.rs` has to give it too.
-use shrunvaki_host::api::{self, Extent};
+use shrunvaki_host::api;
 use shrunvaki_host::sample::{extent, forbidden, Sample, M};
 use shrunvaki_host::tables::{locator, stored, ucs2, Disk, LOCATOR_TYPE};
+use shrunvaki_host::vhdx::{self, Extent};
 
 const NONE: Extent = Extent {
     offset: 0,
@@ -155,7 +156,7 @@ fn a_locator_from_the_tables() {
     let facts = api::tables(&image, disk.log).expect("accepted");
     let length = image.len() as u64;
     for (n, (key, text)) in PAIRS.iter().enumerate() {
-        let at = api::parent_key(&facts, &image, length, &ucs2(key));
+        let at = vhdx::parent_key(&facts, &image, length, &ucs2(key));
         assert_eq!(at, extent(2 * M + 131072 + VALUES[n].0, VALUES[n].1));
         let start = at.offset as usize;
         assert_eq!(image[start..start + at.length as usize], ucs2(text));

@@ -1,11 +1,12 @@
 //! The tables of an image on real bytes: every clause of every rule broken alone and at its boundary, two broken at once for the
 //! order of refusals. Each expected answer is written from document 01.
-use shrunvaki_host::api::{self, Extent, Facts};
+use shrunvaki_host::api;
 use shrunvaki_host::image::MIB;
 use shrunvaki_host::tables::{
     locator, stored, Change, Disk, Item, Region, RegionTable, BAT, DISK_ID, DISK_SIZE,
     FILE_PARAMETERS, IS_REQUIRED, IS_USER, LOCATOR, LOCATOR_TYPE, LOGICAL, METADATA, PHYSICAL,
 };
+use shrunvaki_host::vhdx::{Extent, Facts};
 
 const M: u64 = MIB as u64;
 

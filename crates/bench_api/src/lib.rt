@@ -1,7 +1,5 @@
 // What this project's own tests and benchmarks link: the checksum, the plan of a log's work in figures, and one of its
-// sectors; in `tables` the facts of an image; in `lookup` where a sector is and where a parent locator's key. Not for other
-// programs.
-pub mod lookup;
+// sectors; in `tables` the facts of an image. Not for other programs.
 pub mod tables;
 
 use vhdx_log::Answer;

@@ -17,3 +17,8 @@ check false refusal rest = refusal
 abbrev pub andThen : {A B : Type 0} → Outcome A → (A → Outcome B) → Outcome B
 andThen (refused c) f = refused c
 andThen (answered a) f = f a
+
+-- the refusal's number, or 0
+abbrev pub refusalOf : {A : Type 0} → Outcome A → ℕ
+refusalOf (refused c) = c
+refusalOf (answered a) = 0

@@ -77,7 +77,7 @@ impl Walk {
     }
 
     // The sector that a walk is at.
-    fn current(self, log: &[u8]) -> Next
+    pub fn current(self, log: &[u8]) -> Next
         requires { ⌜ Ready (now log) self × Settled (now log) self ⌝ }
         ensures { λ r. ⌜ nextOf (now (log .entry)) r ≡ getElem? (sectorsLeft (now (log .entry)) self) 0 ⌝ }
         ensures { λ r. ⌜ HeldNext (now (log .entry)) r ⌝ }

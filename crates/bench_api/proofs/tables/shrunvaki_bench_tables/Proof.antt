@@ -2,7 +2,7 @@
 -- Assumes nothing.
 use mathlib.Core.Path.{ap, _∙_}
 use Rattle.vhdx_tables.specs.declared.Reading.{Reading}
-use Rattle.bench_api.specs.Tables.{factsIn}
+use Rattle.vhdx_slots.specs.Slots.{factsIn}
 use borrow.Author.Needs.{needs}
 use Rattle.bench_api.proofs.tables.shrunvaki_bench_tables.Statement.{statement}
 use Rattle.bench_api.proofs.tables.shrunvaki_bench_tables.Tie as tie

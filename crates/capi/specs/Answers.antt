@@ -1,0 +1,31 @@
+-- Answers in arrays, as the exported functions give them. Every slot that the interface names is written.
+-- Assumes nothing.
+use mathlib.Core.List.{List, [], _∷_, _++_}
+use Prim.Native.Nat.{ℕ}
+use lib.ListN.{replicate}
+use Rattle.decision.specs.Refusal.{Outcome}
+use Rattle.extent.specs.declared.Extent.{Extent}
+use Rattle.vhdx_map.specs.Lookup.{Location, figures}
+use Rattle.vhdx.specs.declared.Attached.{Attached}
+use Rattle.vhdx.specs.declared.Stepped.{Stepped}
+use Rattle.vhdx_slots.specs.Slots.{inSlots, numbers}
+
+-- slots 16 to 31 are zero
+unfoldable pub restCleared : List ℕ → List ℕ
+restCleared answer = inSlots 16 (replicate 16 0) answer
+
+-- all 32 slots: refusal, length, count, the facts, zeros
+unfoldable pub attachedIn : Attached → List ℕ → List ℕ
+attachedIn a answer = inSlots 0 (a .refusal ∷ a .length ∷ a .count ∷ (numbers (a .facts) ++ replicate 16 0)) answer
+
+-- both slots: refusal, length
+abbrev pub steppedIn : Stepped → List ℕ → List ℕ
+steppedIn a answer = inSlots 0 (a .refusal ∷ a .length ∷ []) answer
+
+-- both slots: the kind of answer, and its number
+abbrev pub figuresIn : Outcome Location → List ℕ → List ℕ
+figuresIn o answer = inSlots 0 (figures o .0 ∷ figures o .1 ∷ []) answer
+
+-- both slots: offset, length
+abbrev pub extentIn : Extent → List ℕ → List ℕ
+extentIn e answer = inSlots 0 (e .offset ∷ e .length ∷ []) answer

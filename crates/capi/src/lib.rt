@@ -1,0 +1,114 @@
+// What C and Rust link: the four calls over numbers and arrays. Each takes its arrays apart and makes the proved call.
+use vhdx_map::Answer;
+ghost use mathlib.Core.Path.{_≡_};
+ghost use Rattle.decision.specs.Refusal.{refusalOf};
+ghost use Rattle.vhdx_map.specs.Lookup.{lookup};
+ghost use Rattle.vhdx_parent.specs.Key.{keyExtent};
+ghost use Rattle.vhdx_replay.specs.Calls.{file};
+ghost use Rattle.vhdx.specs.Attach.{afterAttach, attachAnswer};
+ghost use Rattle.vhdx.specs.Step.{afterStep, stepAnswer};
+ghost use Rattle.vhdx_slots.specs.Slots.{factsFrom};
+ghost use Rattle.capi.specs.Answers.{restCleared, attachedIn, steppedIn, figuresIn, extentIn};
+
+// Slots 16 to 31, which have no meaning yet.
+fn clear_rest(answer: &mut [u64; 32])
+    ensures { λ _. ⌜ now (answer .exit) ≡ restCleared (now (answer .entry)) ⌝ }
+{
+    let mut i = 16;
+    while i < 32 {
+        answer[i] = 0;
+        i += 1;
+    }
+}
+
+// The refusal's number or 0. The answer: that number, length, count, the facts, zeros.
+#[no_mangle]
+pub extern "C" fn shrunvaki_vhdx_attach(
+    buffer: &mut [u8],
+    length: u64,
+    answer: &mut [u64; 32],
+) -> u64
+    ensures { λ r. ⌜ r ≡ attachAnswer (file (now (buffer .entry)) length) .refusal ⌝ }
+    ensures { λ r. ⌜ now (buffer .exit) ≡ afterAttach (file (now (buffer .entry)) length) .buffer ⌝ }
+    ensures { λ r. ⌜ now (answer .exit) ≡ attachedIn (attachAnswer (file (now (buffer .entry)) length)) (now (answer .entry)) ⌝ }
+{
+    let attached = vhdx::attach(buffer, length);
+    let facts = attached.facts;
+    answer[0] = attached.refusal;
+    answer[1] = attached.length;
+    answer[2] = attached.count;
+    vhdx_slots::write(facts, answer);
+    clear_rest(answer);
+    attached.refusal
+}
+
+// The refusal's number or 0. The answer: that number, length.
+#[no_mangle]
+pub extern "C" fn shrunvaki_vhdx_step(
+    buffer: &mut [u8],
+    length: u64,
+    k: u64,
+    answer: &mut [u64; 2],
+) -> u64
+    ensures { λ r. ⌜ r ≡ stepAnswer k (file (now (buffer .entry)) length) .refusal ⌝ }
+    ensures { λ r. ⌜ now (buffer .exit) ≡ afterStep k (file (now (buffer .entry)) length) .buffer ⌝ }
+    ensures { λ r. ⌜ now (answer .exit) ≡ steppedIn (stepAnswer k (file (now (buffer .entry)) length)) (now (answer .entry)) ⌝ }
+{
+    let stepped = vhdx::step(buffer, length, k);
+    answer[0] = stepped.refusal;
+    answer[1] = stepped.length;
+    stepped.refusal
+}
+
+// The refusal's number or 0. The answer: 0 refused, 1 in the file, 2 zero, 3 in the parent; the number, the offset in the
+// file, or 0. The facts are the array that attach answered.
+#[no_mangle]
+pub extern "C" fn shrunvaki_vhdx_lookup(
+    facts: &[u64; 32],
+    buffer: &[u8],
+    length: u64,
+    sector: u64,
+    answer: &mut [u64; 2],
+) -> u64
+    ensures { λ r. ⌜ r ≡ refusalOf (lookup (factsFrom (now (facts .entry))) (now (buffer .entry)) length sector) ⌝ }
+    ensures { λ r. ⌜ now (answer .exit) ≡ figuresIn (lookup (factsFrom (now (facts .entry))) (now (buffer .entry)) length sector) (now (answer .entry)) ⌝ }
+{
+    match vhdx::lookup(vhdx_slots::read(facts), buffer, length, sector) {
+        Answer::Refused(number) => {
+            answer[0] = 0;
+            answer[1] = number;
+            number
+        }
+        Answer::File(offset) => {
+            answer[0] = 1;
+            answer[1] = offset;
+            0
+        }
+        Answer::Zero => {
+            answer[0] = 2;
+            answer[1] = 0;
+            0
+        }
+        Answer::Parent => {
+            answer[0] = 3;
+            answer[1] = 0;
+            0
+        }
+    }
+}
+
+// The answer: offset and length of the value in the image, 0 and 0 where there is none.
+#[no_mangle]
+pub extern "C" fn shrunvaki_vhdx_parent_key(
+    facts: &[u64; 32],
+    buffer: &[u8],
+    length: u64,
+    key: &[u8],
+    answer: &mut [u64; 2],
+)
+    ensures { λ _. ⌜ now (answer .exit) ≡ extentIn (keyExtent (factsFrom (now (facts .entry))) (now (buffer .entry)) length (now (key .entry))) (now (answer .entry)) ⌝ }
+{
+    let value = vhdx::parent_key_extent(vhdx_slots::read(facts), buffer, length, key);
+    answer[0] = value.offset;
+    answer[1] = value.length;
+}

@@ -1,0 +1,123 @@
+// The four calls of the library: attach, a single step of the replay, lookup, parent key. None has a `requires`: a caller may
+// hand in any buffer, length, step, sector, facts and key.
+// Attach and step write, and write through `vhdx_replay` alone.
+use extent::Extent;
+use vhdx_facts::Facts;
+use vhdx_log::Work;
+ghost use mathlib.Core.Path.{_≡_};
+ghost use Prim.Native.Nat.{_≤_};
+ghost use lib.ListN.{length as lengthOf, take};
+ghost use Rattle.extent.specs.Extent.{MiB, part as partOf, onward};
+ghost use Rattle.vhdx_map.specs.Lookup.{lookup as lookupOf, outcome};
+ghost use Rattle.vhdx_parent.specs.Key.{keyExtent};
+ghost use Rattle.vhdx_replay.specs.Calls.{file};
+ghost use Rattle.vhdx_tables.specs.Tables.{tables, reading};
+ghost use Rattle.vhdx.specs.Attach.{afterAttach, told, attachAnswer};
+ghost use Rattle.vhdx.specs.Step.{afterStep, stepAnswer};
+
+pub struct Attached {
+    // document 01's number, or 0
+    pub refusal: u64,
+    // of the image as attach leaves it
+    pub length: u64,
+    // how many sectors the log's replay wrote
+    pub count: u64,
+    // all zero on a refusal
+    pub facts: Facts,
+}
+
+pub struct Stepped {
+    // document 01's number, or 0
+    pub refusal: u64,
+    // of the image as the step leaves it
+    pub length: u64,
+}
+
+// Applies the log of the image that is the buffer's first length bytes, and reads its tables. What 1 to 8 refuse is decided
+// before anything is written.
+pub fn attach(buffer: &mut [u8], length: u64) -> Attached
+    ensures { λ r. ⌜ r ≡ attachAnswer (file (now (buffer .entry)) length) ⌝ }
+    ensures { λ r. ⌜ now (buffer .exit) ≡ afterAttach (file (now (buffer .entry)) length) .buffer ⌝ }
+{
+    match vhdx_log::plan(buffer, length) {
+        vhdx_log::Answer::Refused(number) => Attached {
+            refusal: number,
+            length,
+            count: 0,
+            facts: vhdx_facts::none(),
+        },
+        vhdx_log::Answer::Apply(work) => {
+            let log = vhdx_replay::log_extent(buffer, length);
+            vhdx_replay::all(buffer, length, log, work);
+            read(buffer, log, work)
+        }
+    }
+}
+
+// The tables of an image whose log, which is here, is applied.
+fn read(buffer: &[u8], log: Extent, work: Work) -> Attached
+    requires { ⌜ (MiB ≤ work .length) × (work .length ≤ lengthOf (now buffer)) ⌝ }
+    ensures { λ r. ⌜ r ≡ told (reading (tables (take (work .length) (now (buffer .entry))) log)) (work .length) (work .count) ⌝ }
+{
+    let end = work.length as usize;
+    let reading = vhdx_tables::read(&buffer[..end], log);
+    let facts = reading.facts;
+    Attached {
+        refusal: reading.refusal,
+        length: work.length,
+        count: work.count,
+        facts,
+    }
+}
+
+// Does step k of the replay alone: 0 grows the image, k writes sector k. The time it takes is that of the plan and of one
+// sector.
+pub fn step(buffer: &mut [u8], length: u64, k: u64) -> Stepped
+    ensures { λ r. ⌜ r ≡ stepAnswer k (file (now (buffer .entry)) length) ⌝ }
+    ensures { λ r. ⌜ now (buffer .exit) ≡ afterStep k (file (now (buffer .entry)) length) .buffer ⌝ }
+{
+    match vhdx_log::plan(buffer, length) {
+        vhdx_log::Answer::Refused(number) => Stepped {
+            refusal: number,
+            length,
+        },
+        vhdx_log::Answer::Apply(work) => {
+            if k == 0 {
+                vhdx_replay::grow(buffer, length, work.length);
+                return Stepped {
+                    refusal: 0,
+                    length: work.length,
+                };
+            }
+            let log = vhdx_replay::log_extent(buffer, length);
+            Stepped {
+                refusal: vhdx_replay::one(buffer, length, log, work, k - 1),
+                length,
+            }
+        }
+    }
+}
+
+// Where the bytes of a sector are, by the facts that attach answered.
+pub fn lookup(facts: Facts, buffer: &[u8], length: u64, sector: u64) -> vhdx_map::Answer
+    ensures { λ r. ⌜ outcome r ≡ lookupOf facts (now (buffer .entry)) length sector ⌝ }
+{
+    vhdx_map::lookup(facts, buffer, length, sector)
+}
+
+// The value of a key of the parent locator, as the very part of the buffer; the empty beginning of the buffer where there is
+// none.
+pub fn parent_key<'a>(facts: Facts, buffer: &'a [u8], length: u64, key: &[u8]) -> &'a [u8]
+    ensures { λ r. ⌜ now r ≡ partOf (now (buffer .entry)) (keyExtent facts (now (buffer .entry)) length (now (key .entry))) ⌝ }
+    ensures { λ r. ⌜ lengthOf (now r) ≡ keyExtent facts (now (buffer .entry)) length (now (key .entry)) .length ⌝ }
+    ensures { λ r. ⌜ r .ptr ≡ onward (buffer .entry .ptr) (keyExtent facts (now (buffer .entry)) length (now (key .entry)) .offset) ⌝ }
+{
+    vhdx_parent::value(facts, buffer, length, key)
+}
+
+// The same answer as offset and length, for callers that no slice can be handed to.
+pub fn parent_key_extent(facts: Facts, buffer: &[u8], length: u64, key: &[u8]) -> Extent
+    ensures { λ r. ⌜ r ≡ keyExtent facts (now (buffer .entry)) length (now (key .entry)) ⌝ }
+{
+    vhdx_parent::value_extent(facts, buffer, length, key)
+}

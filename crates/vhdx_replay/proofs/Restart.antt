@@ -1,0 +1,209 @@
+-- What every list of calls, each run to its end or torn, keeps of a file, and that all steps done then leave the same file as on the
+-- file as it came.
+-- Assumes what `Reads` says of the reader of the headers and the log.
+use mathlib.Core.Path.{_≡_, refl, sym, _∙_}
+use mathlib.Core.Logic.{_⊎_, inl, inr, ⊎-elim}
+use mathlib.Core.List.{List, [], _∷_, map}
+use mathlib.Core.Bool.{Bool, true, false}
+use Prim.Native.Nat.{ℕ, zero, suc, _≤_, _<_}
+use native.Mathlib.Omega.{arith}
+use lib.ListN.{length, take, getD, getElem?}
+use lib.Dec.{leb}
+use lib.Seq.{length-take-le, getD-take, ext-getD}
+use Rattle.decision.specs.Refusal.{refused, answered, check}
+use Rattle.vhdx_log.specs.Work.{Sector, apply}
+use Rattle.vhdx_replay.specs.Steps.{File, end, In, Named, EndBy, Step, grow, write, run, runs, Torn, Ran, stop, torn, next, steps, admitted, stepsOf}
+use Rattle.vhdx_replay.specs.Calls.{planOf, Call, attach, step, Calls, then}
+use Rattle.vhdx_replay.specs.Calls
+use Rattle.vhdx_replay.proofs.Bytes.{lt-or-le, put-length, put-in, put-out, zeroed-length, zeroed-in, zeroed-low}
+
+abbrev pub All : (Step → Type 0) → List Step → Type 0
+All P [] = Unit {0}
+All P (s ∷ w) = P s × All P w
+
+-- ---- what every call keeps
+
+-- f's length is on the way from o's to m, and below it, outside the named sectors, f has the bytes of o grown to m
+pub record Inv (o : File) (m : ℕ) (ss : List Sector) (f : File) : Type 0 where
+  pub capacity : length (f .buffer) ≡ length (o .buffer)
+  pub longer : o .size ≤ f .size
+  pub within : f .size ≤ m
+  pub rest : (i : ℕ) → i < f .size → ¬ Named ss i → getD (f .buffer) i 0 ≡ getD (run (grow m) o .buffer) i 0
+
+-- a step of the plan
+abbrev pub Good : ℕ → List Sector → Step → Type 0
+Good m ss (grow k) = k ≡ m
+Good m ss (write s) = (end s ≤ m) × ((i : ℕ) → In i s → Named ss i)
+
+module _ (o : File) (m : ℕ) (ss : List Sector) (grows : o .size ≤ m) (fits : m ≤ length (o .buffer)) where
+  pub at-first : Inv o m ss o
+  at-first = record { capacity = refl; longer = omega arith; within = grows; rest = λ i l n. sym (zeroed-low (o .buffer) (o .size) m grows fits i l) }
+
+  -- a step that is done is a case of a step that is cut
+  pub done : (s : Step) {f : File} → Good m ss s → Inv o m ss f → Torn s f (run s f)
+  done (grow k) {f} e h =
+      let a : f .size ≤ k = omega (arith, h .within) in
+      let b : k ≤ length (f .buffer) = omega (arith, h .capacity) in
+      record {
+        capacity = zeroed-length (f .buffer) (f .size) k a b;
+        from = a;
+        to = omega arith;
+        given = zeroed-low (f .buffer) (f .size) k a b;
+        zeros = zeroed-in (f .buffer) (f .size) k a b;
+      }
+  done (write s) {f} g h =
+      let b : end s ≤ length (f .buffer) = omega (arith, h .capacity, g .0) in
+      record { capacity = put-length (f .buffer) (s .offset) (s .bytes) b; same-size = refl; rest = put-out (f .buffer) (s .offset) (s .bytes) b }
+
+  pub keeps : (s : Step) {f g : File} → Good m ss s → Inv o m ss f → Torn s f g → Inv o m ss g
+  keeps (grow k) {f} {g} e h t =
+      record {
+        capacity = t .capacity ∙ h .capacity;
+        longer = omega (arith, h .longer, t .from);
+        within = omega (arith, t .to);
+        rest = λ i l n.
+            ⊎-elim
+            (λ a. t .given i a ∙ h .rest i a n)
+            (λ a. t .zeros i a l ∙ sym (zeroed-in (o .buffer) (o .size) m grows fits i (omega (arith, h .longer)) (omega (arith, t .to))))
+            (lt-or-le i (f .size));
+      }
+  keeps (write s) {f} {g} q h t =
+      record {
+        capacity = t .capacity ∙ h .capacity;
+        longer = omega (arith, h .longer, t .same-size);
+        within = omega (arith, h .within, t .same-size);
+        rest = λ i l n. t .rest i (λ x. n (q .1 i x)) ∙ h .rest i (omega (arith, t .same-size)) n;
+      }
+
+  pub ran : {w : List Step} {f g : File} → All (Good m ss) w → Inv o m ss f → Ran w f g → Inv o m ss g
+  ran a h stop = h
+  ran a h (torn {s = s} t) = keeps s (a .0) h t
+  ran a h (next {s = s} r) = ran (a .1) (keeps s (a .0) h (done s (a .0) h)) r
+
+-- to run all steps is one way for them to go
+pub whole : (w : List Step) (f : File) → Ran w f (runs w f)
+whole [] f = stop
+whole (s ∷ w) f = next (whole w (run s f))
+
+-- the steps of the plan are good, and so is the one that is picked
+pub writes-good : (m : ℕ) (ss ts : List Sector) → EndBy m ts → ((i : ℕ) → Named ts i → Named ss i) → All (Good m ss) (map write ts)
+writes-good m ss [] e n = tt
+writes-good m ss (t ∷ ts) e n = ((e .0, λ i x. n i (inl x)), writes-good m ss ts (e .1) (λ i x. n i (inr x)))
+
+admitted-good : (P : Step → Type 0) (w : List Step) (k size : ℕ) → All P w → All P (stepsOf (admitted size (getElem? w k)))
+admitted-good P [] k size a = tt
+admitted-good P (grow m ∷ w) zero size a = (a .0, tt)
+admitted-good P (write s ∷ w) zero size a = fit (leb (end s) size)
+  where
+    fit : (b : Bool) → All P (stepsOf (check b (refused 22) (answered (write s))))
+    fit true = (a .0, tt)
+    fit false = tt
+admitted-good P (s ∷ w) (suc k) size a = admitted-good P w k size (a .1)
+
+-- ---- writing all sectors brings two buffers together that agree elsewhere
+
+record Agree (m : ℕ) (ts : List Sector) (f g : File) : Type 0 where
+  capacity : length (f .buffer) ≡ length (g .buffer)
+  big : m ≤ length (g .buffer)
+  size-f : f .size ≡ m
+  size-g : g .size ≡ m
+  rest : (i : ℕ) → i < m → ¬ Named ts i → getD (f .buffer) i 0 ≡ getD (g .buffer) i 0
+
+in-or-out : (i : ℕ) (s : Sector) → In i s ⊎ (¬ In i s)
+in-or-out i s =
+    ⊎-elim (λ a. inr (λ x. omega (arith, x .0))) (λ a. ⊎-elim (λ b. inl (a, b)) (λ b. inr (λ x. omega (arith, x .1))) (lt-or-le i (end s))) (lt-or-le i (s .offset))
+
+meet : (m : ℕ) (ts : List Sector) {f g : File} → EndBy m ts → Agree m ts f g → Agree m [] (runs (map write ts) f) (runs (map write ts) g)
+meet m [] e a = a
+meet m (s ∷ ts) {f} {g} e a =
+    let bf : end s ≤ length (f .buffer) = omega (arith, e .0, a .big, a .capacity) in
+    let bg : end s ≤ length (g .buffer) = omega (arith, e .0, a .big) in
+    let lf = put-length (f .buffer) (s .offset) (s .bytes) bf in
+    let lg = put-length (g .buffer) (s .offset) (s .bytes) bg in
+    meet m ts (e .1) record {
+      capacity = lf ∙ a .capacity ∙ sym lg;
+      big = omega (arith, a .big, lg);
+      size-f = a .size-f;
+      size-g = a .size-g;
+      rest = λ i l n.
+          ⊎-elim
+          (λ x. put-in (f .buffer) (s .offset) (s .bytes) bf i (x .0) (x .1) ∙ sym (put-in (g .buffer) (s .offset) (s .bytes) bg i (x .0) (x .1)))
+          (λ x. put-out (f .buffer) (s .offset) (s .bytes) bf i x ∙ a .rest i l (⊎-elim x n) ∙ sym (put-out (g .buffer) (s .offset) (s .bytes) bg i x))
+          (in-or-out i s);
+    }
+
+-- ---- the theorem
+
+same-image : (m : ℕ) {f g : File} → Agree m [] f g → take (f .size) (f .buffer) ≡ take (g .size) (g .buffer)
+same-image m {f} {g} a =
+    rw (a .size-f, a .size-g)
+    (ext-getD 0 (take m (f .buffer)) (take m (g .buffer)) (lf ∙ sym lg)
+    (λ i l. getD-take m (f .buffer) i 0 (omega (arith, lf)) ∙ a .rest i (omega (arith, lf)) (λ x. x) ∙ sym (getD-take m (g .buffer) i 0 (omega (arith, lf)))))
+  where
+    lf : length (take m (f .buffer)) ≡ m
+    lf = length-take-le m (f .buffer) (omega (arith, a .big, a .capacity))
+
+    lg : length (take m (g .buffer)) ≡ m
+    lg = length-take-le m (g .buffer) (a .big)
+
+-- what the reader of the headers and the log is to show. `kept i`: byte i is in the first MiB or in the log
+pub record Reads (kept : ℕ → Type 0) (o : File) (m : ℕ) (ss : List Sector) : Type 0 where
+  pub grows : o .size ≤ m
+  pub fits : m ≤ length (o .buffer)
+  pub ends : EndBy m ss
+  pub inside : (i : ℕ) → kept i → i < o .size
+  pub apart : (i : ℕ) → kept i → ¬ Named ss i
+  pub again : (g : File) → length (g .buffer) ≡ length (o .buffer) → o .size ≤ g .size → g .size ≤ m
+      → ((i : ℕ) → kept i → getD (g .buffer) i 0 ≡ getD (o .buffer) i 0) → planOf g ≡ apply m ss
+
+module _ {kept : ℕ → Type 0} {o : File} {m : ℕ} {ss : List Sector} (R : Reads kept o m ss) where
+  pub elsewhere : {f : File} → Inv o m ss f → (i : ℕ) → i < o .size → ¬ Named ss i → getD (f .buffer) i 0 ≡ getD (o .buffer) i 0
+  elsewhere h i l n = h .rest i (omega (arith, h .longer)) n ∙ zeroed-low (o .buffer) (o .size) m (R .grows) (R .fits) i l
+
+  pub untouched : {f : File} → Inv o m ss f → (i : ℕ) → kept i → getD (f .buffer) i 0 ≡ getD (o .buffer) i 0
+  untouched h i k = elsewhere h i (R .inside i k) (R .apart i k)
+
+  -- the plan as it is made again
+  pub planned : {f : File} → Inv o m ss f → planOf f ≡ apply m ss
+  planned {f} h = R .again f (h .capacity) (h .longer) (h .within) (untouched h)
+
+  pub good : All (Good m ss) (steps (apply m ss))
+  good = (refl, writes-good m ss ss (R .ends) (λ i x. x))
+
+  called : {f g : File} → Inv o m ss f → Call f g → Inv o m ss g
+  called h (attach r) = ran o m ss (R .grows) (R .fits) good h (rw (planned h) at r)
+  called {f} h (step k r) = ran o m ss (R .grows) (R .fits) (admitted-good (Good m ss) (steps (apply m ss)) k (f .size) good) h (rw (planned h) at r)
+
+  pub first : Inv o m ss o
+  first = at-first o m ss (R .grows) (R .fits)
+
+  after : {f g : File} → Inv o m ss f → Calls f g → Inv o m ss g
+  after h Calls.none = h
+  after h (then c cs) = after (called h c) cs
+
+  -- what every list of calls keeps
+  pub kept-by-calls : {g : File} → Calls o g → Inv o m ss g
+  kept-by-calls cs = after first cs
+
+  -- an attach of the file as it is now, and one of the file as it came
+  attached : {f : File} → Inv o m ss f → Agree m [] (runs (steps (apply m ss)) f) (runs (steps (apply m ss)) o)
+  attached {f} h =
+      let b : m ≤ length (f .buffer) = omega (arith, R .fits, h .capacity) in
+      let lf = zeroed-length (f .buffer) (f .size) m (h .within) b in
+      let lo = zeroed-length (o .buffer) (o .size) m (R .grows) (R .fits) in
+      meet m ss (R .ends) record {
+        capacity = lf ∙ h .capacity ∙ sym lo;
+        big = omega (arith, R .fits, lo);
+        size-f = refl;
+        size-g = refl;
+        rest = λ i l n.
+            ⊎-elim
+            (λ a. zeroed-low (f .buffer) (f .size) m (h .within) b i a ∙ h .rest i a n)
+            (λ a. zeroed-in (f .buffer) (f .size) m (h .within) b i a l ∙ sym (zeroed-in (o .buffer) (o .size) m (R .grows) (R .fits) i (omega (arith, h .longer)) l))
+            (lt-or-le i (f .size));
+      }
+
+  -- so both leave the same file
+  pub same-file : {f : File} → Inv o m ss f → (runs (steps (apply m ss)) f .size ≡ runs (steps (apply m ss)) o .size)
+      × (take (runs (steps (apply m ss)) f .size) (runs (steps (apply m ss)) f .buffer) ≡ take (runs (steps (apply m ss)) o .size) (runs (steps (apply m ss)) o .buffer))
+  same-file h = let a = attached h in (a .size-f ∙ sym (a .size-g), same-image m a)

@@ -1,0 +1,5 @@
+pub mod Buffer
+pub mod Steps
+pub mod Calls
+pub mod Writes
+pub mod Planned

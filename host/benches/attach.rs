@@ -1,0 +1,91 @@
+//! `attach` of an image whose log of 64 MiB names 15,000 sectors, against the sum of one pass of the project's own CRC-32C over that
+//! log and one copy of so many sectors from a buffer to another, in turn. Prints the ratios; exits with status 1 where one is above
+//! the limit.
+use shrunvaki_host::api;
+use shrunvaki_host::image::{Entry, Image, GUID, MIB, SECTOR};
+use shrunvaki_host::measure::in_turn;
+use shrunvaki_host::pending::{assert_same, data, pattern, usual_facts, Pending};
+use shrunvaki_host::sample::{extent, M};
+use shrunvaki_host::tables::{Disk, BAT, METADATA};
+use shrunvaki_host::vhdx::{self, Facts};
+use std::hint::black_box;
+
+const LOG: usize = 64 * MIB;
+const NAMED: usize = 15_000;
+const LIMIT: f64 = 3.0;
+const TURNS: usize = 21;
+
+/// The metadata region lies behind the log, then the BAT, then the sectors that the log names, in the growth.
+const METADATA_AT: u64 = 65 * M;
+const BAT_AT: u64 = 66 * M;
+const SECTORS_AT: u64 = 67 * M;
+
+/// An image whose log has so many entries, of as many data descriptors each.
+fn image(entries: usize) -> Pending {
+    let mut disk = Disk::default();
+    for copy in &mut disk.copies {
+        copy.region(METADATA).offset = METADATA_AT;
+        copy.region(BAT).offset = BAT_AT;
+    }
+    (disk.metadata_at, disk.length) = (METADATA_AT, SECTORS_AT as usize);
+    let each = NAMED / entries;
+    let sequence: Vec<Entry> = (0..entries)
+        .map(|n| {
+            let mut entry = Entry::new(1 + n as u64, 0);
+            entry.descriptors = (n * each..(n + 1) * each)
+                .map(|i| data(SECTORS_AT + (i * SECTOR) as u64, pattern(i as u8)))
+                .collect();
+            entry
+        })
+        .collect();
+    let capacity = SECTORS_AT as usize + NAMED * SECTOR;
+    let mut image = Image::new(capacity, SECTORS_AT, LOG, GUID);
+    image.tables(&disk);
+    Pending::new(image, 0, &sequence)
+}
+
+/// The time of attach by that of the pass and the copy. Attaching an applied image again does the same work.
+fn compare(name: &str, pending: &Pending) -> f64 {
+    let facts = Facts {
+        bat: extent(BAT_AT, M),
+        metadata: extent(METADATA_AT, M),
+        ..usual_facts()
+    };
+    let answer = pending.answer(Ok(facts));
+    assert_eq!(answer.count, NAMED as u64);
+    let mut buffer = pending.attach(Ok(facts), name);
+    let log = pending.image.log();
+    let from = vec![7u8; NAMED * SECTOR];
+    let mut to = vec![0u8; NAMED * SECTOR];
+    let taken = in_turn(
+        TURNS,
+        |_| {
+            black_box(api::crc32c(black_box(log)));
+            to.copy_from_slice(black_box(&from));
+            black_box(&to);
+        },
+        |_| {
+            let again = vhdx::attach(black_box(&mut buffer), answer.length);
+            assert_eq!(again, answer, "{name}");
+        },
+    );
+    assert_same(&buffer, &pending.applied().0, name);
+    println!(
+        "{name}: attach {:.1} ms, pass and copy {:.1} ms, ratio {:.2}",
+        taken.other.as_secs_f64() * 1e3,
+        taken.one.as_secs_f64() * 1e3,
+        taken.ratio
+    );
+    taken.ratio
+}
+
+fn main() {
+    let mut most: f64 = 0.0;
+    for (name, entries) in [("one entry", 1), ("100 entries", 100)] {
+        most = most.max(compare(name, &image(entries)));
+    }
+    if most > LIMIT {
+        println!("above {LIMIT}");
+        std::process::exit(1);
+    }
+}

@@ -1,0 +1,124 @@
+/*
+ * Shrunvaki: VHDX images whose bytes nobody vouches for.
+ *
+ * An image is the first `length` bytes of a buffer of `capacity` bytes. The buffer is the caller's before, during and after every
+ * call: nothing is kept, allocated or freed, and no file is opened. Attach and step write inside the buffer alone, beside their
+ * answer. During a call nobody else may write to the buffer, nor read it while attach or step runs. Arrays share no byte with the
+ * buffer, and no pointer is null. All else may be anything, every number and every byte: a call answers, or refuses by a number.
+ *
+ * A file: read it into a buffer with room for what its log grows it by, call shrunvaki_vhdx_attach, and go on with the length in
+ * its answer. The log stays in the file and is not marked as applied: attaching again does the same work and gives the same.
+ * examples/attach.c does this. Link target/staticlib/libcapi.a, which `rt staticlib capi` writes.
+ */
+#ifndef SHRUNVAKI_H
+#define SHRUNVAKI_H
+
+#include <stddef.h>
+#include <stdint.h>
+
+#ifdef __cplusplus
+extern "C" {
+#endif
+
+/*
+ * Why a call refuses: the first of these that applies. 0 is no refusal.
+ *
+ *  attach and step; no byte is changed:
+ *   1  the length is above the capacity or below 1 MiB
+ *   2  the file does not begin "vhdxfile"
+ *   3  no header is current
+ *   4  a field of the current header breaks its rule
+ *   5  the header names a log, but there is no log sequence in it
+ *   6  the file is shorter than the log says that it was (FlushedFileOffset)
+ *   7  the log would write into the first MiB or into itself
+ *   8  the log would grow the file past the capacity or past 128 TiB
+ *  attach; the log is applied, and every fact is zero:
+ *   9  neither copy of the region table is valid
+ *  10  an entry of the region table breaks its rule
+ *  11  there is no BAT region or no metadata region
+ *  12  the metadata region is empty, or its table or an entry breaks its rule
+ *  13  a needed metadata item is missing or has a wrong length
+ *  14  a metadata item's value is out of range
+ *  15  the BAT region is too short for the disk
+ *  lookup; nothing is ever written:
+ *  16  the facts do not fit the image, or the length is above the capacity
+ *  17  the disk has no such sector
+ *  18  the block's state is 4 or 5, or 7 without a parent
+ *  19  the block starts below 1 MiB or ends past the image
+ *  20  the block's bitmap is not in state 6, starts below 1 MiB or ends past the image
+ *  step; no byte is changed:
+ *  21  the log's work has no such step
+ *  22  the step's sector ends past the given length
+ */
+
+/* The slots of attach's answer. Slots 16 to 31 are 0. */
+enum {
+    SHRUNVAKI_REFUSAL = 0,
+    SHRUNVAKI_LENGTH = 1, /* of the image after the call, in bytes */
+    SHRUNVAKI_COUNT = 2,  /* of sectors that were written; one that is named twice counts twice */
+    /* the facts: all 0 with a refusal */
+    SHRUNVAKI_LOGICAL_SECTOR_SIZE = 3,
+    SHRUNVAKI_PHYSICAL_SECTOR_SIZE = 4,
+    SHRUNVAKI_BLOCK_SIZE = 5,
+    SHRUNVAKI_DISK_SIZE = 6, /* in bytes */
+    SHRUNVAKI_HAS_PARENT = 7, /* 0 or 1; lookup and parent key take any number but 0 for 1 */
+    SHRUNVAKI_DISK_ID_LOW = 8, /* bytes 0 to 7 of the identifier as stored, little-endian */
+    SHRUNVAKI_DISK_ID_HIGH = 9, /* bytes 8 to 15 */
+    /* parts of the image, by offset from its start and length */
+    SHRUNVAKI_BAT_OFFSET = 10,
+    SHRUNVAKI_BAT_LENGTH = 11,
+    SHRUNVAKI_METADATA_OFFSET = 12,
+    SHRUNVAKI_METADATA_LENGTH = 13,
+    SHRUNVAKI_LOCATOR_OFFSET = 14, /* the parent locator; 0 and 0 without a parent */
+    SHRUNVAKI_LOCATOR_LENGTH = 15,
+    SHRUNVAKI_SLOTS = 32
+};
+
+/* Where a sector is: lookup's answer[0]. */
+enum {
+    SHRUNVAKI_REFUSED = 0,
+    SHRUNVAKI_FILE = 1,
+    SHRUNVAKI_ZERO = 2,
+    SHRUNVAKI_PARENT = 3
+};
+
+/*
+ * Applies the image's log, then reads its tables. Returns the refusal's number, which is in the answer too.
+ *
+ * The image grows with zeros up to the answered length, and each sector that the log names is written; no other byte of the buffer
+ * changes, in particular none of the first MiB, of the log, or past that length. With refusals 1 to 8 nothing is changed, and the
+ * answer is the given length and count 0. With 9 to 15 the log is applied, and length and count say so.
+ *
+ * A call that was interrupted, whatever it left in the sector being written or however far it grew the image, is made good by
+ * another attach of what it left.
+ */
+uint64_t shrunvaki_vhdx_attach(uint8_t *buffer, size_t capacity, uint64_t length, uint64_t answer[32]);
+
+/*
+ * Does one step of the log's work alone, for a caller who writes the file through after each: step 0 grows the image, step k
+ * writes sector k, from 1 to attach's count. answer[0] is the refusal, which is returned too, answer[1] the image's length after
+ * the step: grown by step 0, else the given one. A refused step changes nothing.
+ */
+uint64_t shrunvaki_vhdx_step(uint8_t *buffer, size_t capacity, uint64_t length, uint64_t k, uint64_t answer[2]);
+
+/*
+ * Says where a sector of the disk is (a sector of the logical sector size). `facts` is attach's answer, of which slots 3 to 15 are
+ * read. Returns the refusal's number. answer[0] is SHRUNVAKI_REFUSED, _FILE, _ZERO or _PARENT; answer[1] the refusal's number,
+ * the offset in the file of the sector's first byte, or 0. In the parent: the sector of the same number of the parent's disk.
+ */
+uint64_t shrunvaki_vhdx_lookup(const uint64_t facts[32], const uint8_t *buffer, size_t capacity, uint64_t length,
+                               uint64_t sector, uint64_t answer[2]);
+
+/*
+ * Finds the value of a key of the parent locator, as "relative_path". Key and value are UCS-2, little-endian; `key_length` is in
+ * bytes. answer[0] is the value's offset from the image's start, answer[1] its length in bytes: the value is that part of the
+ * buffer. Both are 0 where refusal 16 applies, there is no parent, the locator breaks its rule, or no entry has the key.
+ */
+void shrunvaki_vhdx_parent_key(const uint64_t facts[32], const uint8_t *buffer, size_t capacity, uint64_t length,
+                               const uint8_t *key, size_t key_length, uint64_t answer[2]);
+
+#ifdef __cplusplus
+}
+#endif
+
+#endif
