@@ -1,5 +1,5 @@
-//! Images with a pending log, and what replaying it does to their buffer: by the descriptors that a test laid into the log, not by
-//! the log's bytes.
+//! Images with a pending log, and what replaying it does to their buffer: by the descriptors that a test laid into the log, not
+//! by the log's bytes.
 use crate::image::{Descriptor, Entry, Image, GUID, HEADERS, MIB, SECTOR};
 use crate::random::Random;
 use crate::sample::{entry, extent, M};
@@ -170,8 +170,8 @@ impl Pending {
         buffer
     }
 
-    /// That a buffer has the original's first MiB and log, and that it differs elsewhere only in sectors that the log names and past
-    /// the old end.
+    /// That a buffer has the original's first MiB and log, and that it differs elsewhere only in sectors that the log names and
+    /// past the old end.
     #[track_caller]
     pub fn assert_only_named(&self, buffer: &[u8]) {
         let original = &self.image.buffer;
@@ -254,8 +254,8 @@ pub fn bat_sector(value: u64) -> Vec<u8> {
     bytes
 }
 
-/// Three entries round the ring's end, on a file whose length is no whole sector. The log damages the tables and cures them, names
-/// sectors more than once, one of them across the old end, and puts block 0 in the file.
+/// Three entries round the ring's end, on a file whose length is no whole sector. The log damages the tables and cures them,
+/// names sectors more than once, one of them across the old end, and puts block 0 in the file.
 pub fn rich(disk: &Disk) -> Pending {
     let file = disk.bytes();
     let length = 3 * M + 100_001;

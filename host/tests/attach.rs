@@ -1,5 +1,5 @@
-//! Attaching files with a pending log on real bytes: the log's effect, refusals 9 to 15 behind it, and what the answer is good for.
-//! Each expected answer is written from document 01, and every byte of the buffer is compared, past the image's end too.
+//! Attaching files with a pending log on real bytes: the log's effect, refusals 9 to 15 behind it, and what the answer is good
+//! for. Each expected answer is written from document 01, and every byte of the buffer is compared, past the image's end too.
 use shrunvaki_host::image::{seal, Descriptor, Entry, Image, GUID, HEADERS, MIB, SECTOR};
 use shrunvaki_host::pending::{
     assert_same, bat_sector, data, pattern, r1, r1_with, r_entry, rich, sample_file, small_blocks,

@@ -1,5 +1,5 @@
-//! Interrupted attaches and steps: after any list of calls, each run to its end or cut, one more attach gives what an attach of the
-//! original gives. A torn write leaves random bytes in its sector, interrupted growth any length between the given and the
+//! Interrupted attaches and steps: after any list of calls, each run to its end or cut, one more attach gives what an attach of
+//! the original gives. A torn write leaves random bytes in its sector, interrupted growth any length between the given and the
 //! final one with garbage behind it. What the log names is known from the descriptors that the test laid into it.
 use shrunvaki_host::image::{Entry, Image, GUID, MIB, SECTOR};
 use shrunvaki_host::pending::{

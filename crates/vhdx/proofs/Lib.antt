@@ -1,2 +1,4 @@
 pub mod Attaching
 pub mod Stepping
+pub mod Refusals
+pub mod CrashSafety

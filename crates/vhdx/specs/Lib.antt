@@ -1,2 +1,4 @@
 pub mod Attach
 pub mod Step
+pub mod Refusals
+pub mod CrashSafety

@@ -1,8 +1,9 @@
 -- What callers know of a current header, and that it stays the current one while the first MiB stays.
 -- Assumes nothing.
-use mathlib.Core.Path.{_≡_, refl, subst}
+use mathlib.Core.Path.{_≡_, refl, ap, subst}
 use mathlib.Core.Bool.{Bool, true, false, _&&_, and-eq-true-iff}
 use mathlib.Core.List.{List}
+use mathlib.Core.Option.{Option, none, some}
 use Prim.Native.Nat.{ℕ, _+_, _%_, _≤_}
 use native.Mathlib.Omega.{arith}
 use lib.Dec.{leb}
@@ -13,7 +14,7 @@ use Rattle.decision.specs.Refusal.{check}
 use Rattle.field.specs.Fields.{starts}
 use Rattle.extent.specs.Extent.{MiB}
 use Rattle.vhdx_header.specs.Header.{versionRule, logVersionRule, logOffsetRule, logLengthRule, logStartRule, logLimit, logLimitRule, fieldRules, insideRule, contents}
-use Rattle.vhdx_header.specs.Current.{vhdxfile, slot1, slot2, headerAt, currentSlot, readHeader, readSlot, readFirstMiB, withinImage, firstMiB, currentHeader}
+use Rattle.vhdx_header.specs.Current.{vhdxfile, slot1, slot2, headerAt, currentSlot, readHeader, readSlot, readFirstMiB, withinImage, firstMiB, currentHeader, slotOffset, currentOffset}
 use Rattle.vhdx_header.specs.declared.Header.{Header}
 use Rattle.vhdx_header.specs.declared.Answer.{Answer}
 use Rattle.vhdx_header.specs.declared.Answer.the-variants.{Refused, Current}
@@ -104,3 +105,18 @@ module _ (b : List ℕ) (n : ℕ) {h : Header} (e : currentHeader b n ≡ Curren
       let i : h .«log_offset» + h .«log_length» ≤ n′ = omega (arith, a .inside) in
       let f : MiB ≤ n′ = omega (arith, a .holds-first) in
       simp (le-leb n′ (length b′) fits, le-leb MiB n′ f, same, tests .1 .0, le-leb (h .«log_offset» + h .«log_length») n′ i)
+
+-- ---- what is read of the first MiB, by where the current header stands
+
+abbrev pub readAt : Option ℕ → List ℕ → Answer
+readAt none m = Refused 3
+readAt (some at) m = readHeader at (headerAt m at)
+
+pub by-offset : (m : List ℕ) → readFirstMiB m ≡ check (starts m vhdxfile) (Refused 2) (readAt (currentOffset m) m)
+unfolding readFirstMiB currentOffset
+by-offset m = ap (check (starts m vhdxfile) (Refused 2)) (go (currentSlot m))
+  where
+    go : (s : Slot) → readSlot s m ≡ readAt (slotOffset s) m
+    go Neither = refl
+    go First = refl
+    go Second = refl

@@ -3,6 +3,7 @@
 -- Assumes nothing.
 use mathlib.Core.Bool.{Bool, true, false, cond, _&&_}
 use mathlib.Core.List.{List, [], _∷_}
+use mathlib.Core.Option.{Option, none, some}
 use Prim.Native.Nat.{ℕ}
 use lib.Dec.{leb, ltb}
 use lib.ListN.{length, take, drop}
@@ -43,6 +44,15 @@ currentSlot m =
     let first = headerAt m slot1 in
     let second = headerAt m slot2 in
     chosenSlot (validHeader first) (validHeader second) (sequenceNumber first) (sequenceNumber second)
+
+-- where the current header stands, if there is one
+abbrev pub slotOffset : Slot → Option ℕ
+slotOffset Neither = none
+slotOffset First = some slot1
+slotOffset Second = some slot2
+
+unfoldable pub currentOffset : List ℕ → Option ℕ
+currentOffset m = slotOffset (currentSlot m)
 
 -- 4: a field of the current header breaks its rule
 unfoldable pub readHeader : ℕ → List ℕ → Answer

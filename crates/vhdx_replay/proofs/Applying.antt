@@ -10,19 +10,18 @@ use lib.ListN.{length, drop, getD}
 use Rattle.extent.specs.declared.Extent.{Extent}
 use Rattle.extent.specs.Extent.{MiB, shares, part}
 use Rattle.vhdx_header.specs.declared.Header.{Header}
-use Rattle.vhdx_header.specs.declared.Answer.{Answer as HeaderAnswer}
-use Rattle.vhdx_header.specs.declared.Answer.the-variants.{Refused as HeaderRefused, Current}
+use Rattle.vhdx_header.specs.declared.Answer.the-variants.{Current}
 use Rattle.vhdx_header.specs.Current.{currentHeader}
 use Rattle.vhdx_header.proofs.Laws.{accepted}
 use Rattle.vhdx_entry.specs.Ring.{sectorSize}
 use Rattle.vhdx_log.specs.declared.Work.{Work}
 use Rattle.vhdx_log.specs.declared.walk.Walk.{Walk}
-use Rattle.vhdx_log.specs.Work.{Sector, sectors, lies, someLies, Plan, refused, apply, count}
+use Rattle.vhdx_log.specs.Work.{Sector, sectors, lies, someLies, Plan, apply, count}
 use Rattle.vhdx_log.specs.Plan.{logBytes, extentOf, plan}
 use Rattle.vhdx_log.specs.Cursor.{descriptorsLeft}
 use Rattle.vhdx_log.specs.Walk.{sectorsLeft, walkFrom, Ready, Settled}
 use Rattle.vhdx_log.specs.Answers.{logOf}
-use Rattle.vhdx_log.proofs.Answering.{plan-refused, log-is}
+use Rattle.vhdx_log.proofs.Answering.{log-is}
 use Rattle.vhdx_log.proofs.Sectors.{left-from}
 use Rattle.vhdx_replay.specs.Buffer.{put, zeroed}
 use Rattle.vhdx_replay.specs.Steps.{File, EndBy, write, run, runs, steps}
@@ -31,7 +30,7 @@ use Rattle.vhdx_replay.specs.Writes.{allWritten, Safe, Writable}
 use Rattle.vhdx_replay.specs.Planned.{extentBy, logExtent, Planned}
 use Rattle.vhdx_replay.proofs.Bytes.{zeroed-length, zeroed-low}
 use Rattle.vhdx_replay.proofs.Sectors.{Whole, neither}
-use Rattle.vhdx_replay.proofs.Reading.{Applied, applied, same-part}
+use Rattle.vhdx_replay.proofs.Reading.{Applied, applied, header-of, same-part}
 
 -- ---- sectors
 
@@ -63,11 +62,7 @@ planned b log w = sectors (descriptorsLeft (part b log) (w .cursor))
 
 module _ (b : List ℕ) (n : ℕ) (log : Extent) (w : Work) (p : Planned b n log w) where
   pub header : (h : Header) × (currentHeader b n ≡ Current h)
-  header = go (currentHeader b n) refl
-    where
-      go : (a : HeaderAnswer) → currentHeader b n ≡ a → (h : Header) × (currentHeader b n ≡ Current h)
-      go (HeaderRefused c) e = let never = p .same ∙ sym (plan-refused b n c e) in let z : _≡_ {A = ℕ} 0 1 = cc in absurd (omega arith)
-      go (Current h) e = (h, e)
+  header = header-of b n (sym (p .same))
 
   pub here : log ≡ extentOf (header .0)
   here = p .here ∙ extent-is b n (header .1)

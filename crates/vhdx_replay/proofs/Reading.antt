@@ -19,7 +19,7 @@ use Rattle.extent.specs.Extent.{MiB}
 use Rattle.vhdx_header.specs.Current.{firstMiB, currentHeader}
 use Rattle.vhdx_header.specs.declared.Header.{Header}
 use Rattle.vhdx_header.specs.declared.Answer.{Answer}
-use Rattle.vhdx_header.specs.declared.Answer.the-variants.{Current}
+use Rattle.vhdx_header.specs.declared.Answer.the-variants.{Refused, Current}
 use Rattle.vhdx_header.proofs.Laws.{accepted}
 use Rattle.vhdx_sequence.specs.declared.Sequence.{Sequence}
 use Rattle.vhdx_sequence.specs.Sequence.{activeSequence}
@@ -27,7 +27,7 @@ use Rattle.vhdx_sequence.proofs.Laws.{found}
 use Rattle.vhdx_log.specs.Work.{Entries, head, allDescriptors, furthest, finalLength, Sector, sectors, someLies, Plan, refused, apply, lengthLimit, applyWithin, work}
 use Rattle.vhdx_log.specs.Plan.{entriesFrom, logBytes, extentOf, planSequence, planLog, planHeader, plan}
 use Rattle.vhdx_log.proofs.Chains.{linked-readable}
-use Rattle.vhdx_log.proofs.Answering.{log-placed}
+use Rattle.vhdx_log.proofs.Answering.{plan-refused, log-placed}
 use Rattle.vhdx_log.proofs.Again.{plan-again}
 use Rattle.vhdx_replay.specs.Steps.{File, Named, EndBy}
 use Rattle.vhdx_replay.specs.Calls.{planOf}
@@ -112,6 +112,14 @@ unfolding logBytes
 same-log h r r′ e b s = same-part (h .«log_offset») (h .«log_length») r r′ e b s
 
 -- ---- the plan of a file
+
+-- it is made by a current header
+pub header-of : (b : List ℕ) (n : ℕ) {m : ℕ} {ss : List Sector} → plan b n ≡ apply m ss → (h : Header) × (currentHeader b n ≡ Current h)
+header-of b n {m} {ss} e = go (currentHeader b n) refl
+  where
+    go : (a : Answer) → currentHeader b n ≡ a → (h : Header) × (currentHeader b n ≡ Current h)
+    go (Refused c) q = let never : refused c ≡ apply m ss = plan-refused b n c q ∙ e in let z : _≡_ {A = ℕ} 0 1 = cc in absurd (omega arith)
+    go (Current h) q = (h, q)
 
 module _ (o : File) (h : Header) (k : currentHeader (o .buffer) (o .size) ≡ Current h) {m : ℕ} {ss : List Sector} (e : planOf o ≡ apply m ss) where
   pub applied : Applied (extentOf h) (o .size) (length (o .buffer)) m ss

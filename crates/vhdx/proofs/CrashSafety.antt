@@ -1,0 +1,98 @@
+-- Demand 3, proved: the plan is made again after every list of calls, the steps done again leave the same image, and what is answered
+-- of it depends on nothing else.
+-- Assumes nothing.
+use mathlib.Core.Path.{_≡_, refl, sym, ap, subst, _∙_}
+use mathlib.Core.List.{List, [], _∷_, map}
+use mathlib.Core.Logic.{inl, inr}
+use mathlib.Core.Option.{none, some}
+use Prim.Native.Nat.{ℕ, _+_, _≤_, _<_}
+use native.Mathlib.Omega.{arith}
+use lib.ListN.{length, take, getD}
+use Rattle.extent.specs.declared.Extent.{Extent}
+use Rattle.extent.specs.Extent.{part}
+use Rattle.vhdx_header.specs.declared.Header.{Header}
+use Rattle.vhdx_header.specs.declared.Answer.the-variants.{Current}
+use Rattle.vhdx_header.specs.Current.{currentHeader}
+use Rattle.vhdx_header.proofs.Laws.{accepted}
+use Rattle.vhdx_log.specs.Work.{Sector, Plan, refused, apply}
+use Rattle.vhdx_log.specs.Plan.{extentOf}
+use Rattle.vhdx_replay.specs.Steps.{File, Named, runs, steps, single}
+use Rattle.vhdx_replay.specs.Calls.{planOf, Call, attach, step, Calls}
+use Rattle.vhdx_replay.specs.Planned.{logExtent}
+use Rattle.vhdx_replay.proofs.Applying.{extent-is}
+use Rattle.vhdx_replay.proofs.Reading.{header-of, reads, same-part, same-first}
+use Rattle.vhdx_replay.proofs.Restart.{Inv, whole, kept-by-calls, planned, elsewhere, untouched, same-file}
+use Rattle.vhdx.specs.declared.Attached.{Attached}
+use Rattle.vhdx.specs.Attach.{imageOf, afterAttach, read, told, answerBy, attachAnswer}
+use Rattle.vhdx.specs.Step.{afterStep}
+use Rattle.vhdx.specs.Refusals.{refusalOfPlan}
+use Rattle.vhdx.specs.CrashSafety.{sectorsOf, Restarts, CrashSafe, RunToTheEnd}
+use Rattle.vhdx.proofs.Refusals.{by-the-table}
+
+applies : (p : Plan) → refusalOfPlan p ≡ none → (m : ℕ) × (ss : List Sector) × (p ≡ apply m ss)
+applies (refused c) e = let z : _≡_ {A = ℕ} 0 1 = cc in absurd (omega arith)
+applies (apply m ss) e = (m, ss, refl)
+
+-- what attach answers and leaves where the plan is this one
+module _ (m : ℕ) (ss : List Sector) (f : File) (e : planOf f ≡ apply m ss) where
+  leaves : afterAttach f ≡ runs (steps (apply m ss)) f
+  unfolding afterAttach
+  leaves = ap (λ (p : Plan). runs (steps p) f) e
+
+  answers : attachAnswer f ≡ told (read (imageOf (runs (steps (apply m ss)) f))) (runs (steps (apply m ss)) f .size) (length ss)
+  unfolding attachAnswer afterAttach
+  answers = ap (λ (p : Plan). answerBy p (runs (steps p) f)) e
+
+module _ (o f : File) (m : ℕ) (ss : List Sector) (e : planOf o ≡ apply m ss) (h : Header) (k : currentHeader (o .buffer) (o .size) ≡ Current h) (cs : Calls o f) where
+  kept : Inv o m ss f
+  kept = kept-by-calls (reads o h k e) cs
+
+  again : planOf f ≡ apply m ss
+  again = planned (reads o h k e) kept
+
+  same-image : (runs (steps (apply m ss)) f .size ≡ runs (steps (apply m ss)) o .size) × (imageOf (runs (steps (apply m ss)) f) ≡ imageOf (runs (steps (apply m ss)) o))
+  same-image = same-file (reads o h k e) kept
+
+  same-answer : attachAnswer f ≡ attachAnswer o
+  same-answer =
+      answers m ss f again
+      ∙ ap (λ (i : List ℕ). told (read i) (runs (steps (apply m ss)) f .size) (length ss)) (same-image .1)
+      ∙ ap (λ (n : ℕ). told (read (imageOf (runs (steps (apply m ss)) o))) n (length ss)) (same-image .0)
+      ∙ sym (answers m ss o e)
+
+  -- the image up to the answered length
+  image-of : (g : File) → planOf g ≡ apply m ss → take (attachAnswer g .length) (afterAttach g .buffer) ≡ imageOf (runs (steps (apply m ss)) g)
+  image-of g q =
+      ap (λ (a : Attached). take (a .length) (afterAttach g .buffer)) (answers m ss g q)
+      ∙ ap (λ (x : File). take (runs (steps (apply m ss)) g .size) (x .buffer)) (leaves m ss g q)
+
+  restarts : Restarts o f
+  unfolding part
+  restarts =
+      let a = accepted (o .buffer) (o .size) k in
+      let log = logExtent (o .buffer) (o .size) in
+      let here : log ≡ extentOf h = extent-is (o .buffer) (o .size) k in
+      record {
+        same-capacity = kept .capacity;
+        same-length = ap (λ (x : Attached). x .length) same-answer;
+        same-bytes = image-of f again ∙ same-image .1 ∙ sym (image-of o e);
+        same-count = ap (λ (x : Attached). x .count) same-answer;
+        same-refusal = ap (λ (x : Attached). x .refusal) same-answer;
+        same-facts = ap (λ (x : Attached). x .facts) same-answer;
+        no-shorter = kept .longer;
+        same-elsewhere = λ i l n. elsewhere (reads o h k e) kept i l (subst (λ (p : Plan). ¬ Named (sectorsOf p) i) e n);
+        first-kept = same-first (o .buffer) (f .buffer) (kept .capacity) (omega (arith, a .holds-first, a .fits)) (λ i l. untouched (reads o h k e) kept i (inl l));
+        log-kept = subst (λ (x : Extent). part (f .buffer) x ≡ part (o .buffer) x) (sym here)
+            (same-part (h .«log_offset») (h .«log_length») (o .buffer) (f .buffer) (kept .capacity) (omega (arith, a .inside, a .fits))
+            (λ i from to. untouched (reads o h k e) kept i (inr (from, to))));
+      }
+
+pub crash-safe : CrashSafe
+crash-safe o f a cs =
+    let p = applies (planOf o) (by-the-table o ∙ a) in
+    let h = header-of (o .buffer) (o .size) (p .2) in
+    restarts o f (p .0) (p .1) (p .2) (h .0) (h .1) cs
+
+pub run-to-the-end : RunToTheEnd
+unfolding afterAttach afterStep
+run-to-the-end f = (attach (whole (steps (planOf f)) f), λ k. step k (whole (single (planOf f) k (f .size)) f))
