@@ -90,7 +90,7 @@ enum {
  * changed, and the answer is the given length and count 0. With 9 to 15 the log is applied, and length and count say so.
  *
  * A call that was interrupted, whatever it left in the sector being written or however far it grew the image, is made good by
- * another attach of what it left.
+ * another attach of what it left, at the length that it left and in a buffer of the same capacity.
  */
 uint64_t shrunvaki_vhdx_attach(uint8_t *buffer, size_t capacity, uint64_t length, uint64_t answer[32]);
 
@@ -104,8 +104,7 @@ uint64_t shrunvaki_vhdx_step(uint8_t *buffer, size_t capacity, uint64_t length, 
 /*
  * Says where a sector of the disk is (a sector of the logical sector size). `facts` is attach's answer, of which slots 3 to 15
  * are read. Returns the refusal's number. answer[0] is SHRUNVAKI_REFUSED, _FILE, _ZERO or _PARENT; answer[1] the refusal's
- * number, the offset in the file of the sector's first byte, or 0. In the parent: the sector of the same number of the parent's
- * disk.
+ * number, the offset in the file of the sector's first byte, or 0.
  */
 uint64_t shrunvaki_vhdx_lookup(const uint64_t facts[32], const uint8_t *buffer, size_t capacity, uint64_t length,
                                uint64_t sector, uint64_t answer[2]);

@@ -22,10 +22,10 @@ use Rattle.vhdx_log.specs.Work.{Sector, Plan, refused, apply, count}
 use Rattle.vhdx_log.specs.Plan.{plan}
 use Rattle.vhdx_log.specs.Answers.{logOf, planIn, countOf, ReadyIn, planOf}
 use Rattle.vhdx_replay.specs.Buffer.{put, zeroed}
-use Rattle.vhdx_replay.specs.Steps.{File, write, runs, steps}
+use Rattle.vhdx_replay.specs.Steps.{File, Step, write, runs, steps}
 use Rattle.vhdx_replay.specs.Calls.{file}
 use Rattle.vhdx_replay.specs.Planned.{logExtent, Planned}
-use Rattle.vhdx_replay.proofs.Applying.{planned, header, here, plan-is, known, extent-is, length-fits}
+use Rattle.vhdx_replay.proofs.Applying.{planned, header, here, plan-is, known, all-steps, extent-is, length-fits}
 use Rattle.vhdx_replay.proofs.Reading.{same-first, reads}
 use Rattle.vhdx_replay.proofs.Restart.{Inv, ran, whole, good, first, untouched}
 use Rattle.vhdx.specs.declared.Attached.{Attached}
@@ -79,7 +79,10 @@ module _ (b : List ℕ) (n : ℕ) (log : Extent) (w : Work) (p : Planned b n log
   holds-first = omega (arith, accepted b n (header b n log w p .1) .holds-first, known b n log w p .grows)
 
   -- g is the buffer as the code leaves it
-  module _ (g : List ℕ) (q : g ≡ runs (steps (plan b n)) (file b n) .buffer) where
+  module _ (g : List ℕ) (did : g ≡ runs (take (w .count + 1) (steps (plan b n))) (file b n) .buffer) where
+    q : g ≡ runs (steps (plan b n)) (file b n) .buffer
+    q = did ∙ ap (λ (v : List Step). runs v (file b n) .buffer) (all-steps b n log w p)
+
     same-buffer : g ≡ runs (steps (apply (w .length) (planned b log w))) (file b n) .buffer
     same-buffer = q ∙ ap (λ (x : Plan). runs (steps x) (file b n) .buffer) (plan-is b n log w p)
 

@@ -2,3 +2,5 @@ pub mod Attaching
 pub mod Stepping
 pub mod Refusals
 pub mod CrashSafety
+pub mod Beyond
+pub mod Examples

@@ -7,14 +7,13 @@ use Prim.Native.Nat.{ℕ, zero, suc, _+_, _-_, _<_}
 use native.Mathlib.Numerals.{add-one}
 use native.Mathlib.Omega.{arith}
 use lib.Dec.{leb}
-use lib.ListN.{getElem?}
+use lib.ListN.{take, getElem?}
 use Rattle.decision.specs.Refusal.{Outcome, refused, answered, check, refusalOf}
 use Rattle.extent.specs.declared.Extent.{Extent}
 use Rattle.vhdx_log.specs.declared.Work.{Work}
 use Rattle.vhdx_log.specs.Work.{Sector, Plan, refused as unplanned, apply}
 use Rattle.vhdx_log.specs.Plan.{plan}
-use Rattle.vhdx_replay.specs.Buffer.{zeroed}
-use Rattle.vhdx_replay.specs.Steps.{File, Step, write, end, runs, admitted, chosen, stepsOf, single}
+use Rattle.vhdx_replay.specs.Steps.{File, write, end, runs, steps, admitted, chosen, stepsOf, single}
 use Rattle.vhdx_replay.specs.Calls.{file}
 use Rattle.vhdx_replay.specs.Planned.{Planned}
 use Rattle.vhdx_replay.proofs.Applying.{planned, plan-is}
@@ -45,10 +44,12 @@ module _ (b : List ℕ) (n k : ℕ) where
       unfolding stepAnswer afterStep says
       grown-step = ap (λ (x : Plan). says x 0 (file b n)) grow-chosen ∙ ap (λ (j : ℕ). says (plan b n) j (file b n)) (sym z)
 
-      pub grown-after : zeroed b n (w .length) ≡ afterStep k (file b n) .buffer
+      pub grown-after : (g : List ℕ) → g ≡ runs (take (0 + 1) (steps (plan b n))) (file b n) .buffer → g ≡ afterStep k (file b n) .buffer
       unfolding afterStep
-      grown-after =
-          ap (λ (x : Plan). runs (single x 0 n) (file b n) .buffer) grow-chosen ∙ ap (λ (j : ℕ). runs (single (plan b n) j n) (file b n) .buffer) (sym z)
+      grown-after g e =
+          e ∙ ap (λ (x : Plan). runs (take 1 (steps x)) (file b n) .buffer) (sym grow-chosen)
+          ∙ ap (λ (x : Plan). runs (single x 0 n) (file b n) .buffer) grow-chosen
+          ∙ ap (λ (j : ℕ). runs (single (plan b n) j n) (file b n) .buffer) (sym z)
 
     -- a sector leaves the length
     admitted-size : (f : File) (size : ℕ) (ss : List Sector) (i : ℕ) → runs (stepsOf (admitted size (getElem? (map write ss) i))) f .size ≡ f .size

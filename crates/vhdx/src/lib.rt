@@ -48,7 +48,7 @@ pub fn attach(buffer: &mut [u8], length: u64) -> Attached
         },
         vhdx_log::Answer::Apply(work) => {
             let log = vhdx_replay::log_extent(buffer, length);
-            vhdx_replay::all(buffer, length, log, work);
+            vhdx_replay::first_steps(buffer, length, log, work, work.count);
             read(buffer, log, work)
         }
     }
@@ -82,16 +82,16 @@ pub fn step(buffer: &mut [u8], length: u64, k: u64) -> Stepped
             length,
         },
         vhdx_log::Answer::Apply(work) => {
+            let log = vhdx_replay::log_extent(buffer, length);
             if k == 0 {
-                vhdx_replay::grow(buffer, length, work.length);
+                vhdx_replay::first_steps(buffer, length, log, work, 0);
                 return Stepped {
                     refusal: 0,
                     length: work.length,
                 };
             }
-            let log = vhdx_replay::log_extent(buffer, length);
             Stepped {
-                refusal: vhdx_replay::one(buffer, length, log, work, k - 1),
+                refusal: vhdx_replay::one_sector(buffer, length, log, work, k - 1),
                 length,
             }
         }

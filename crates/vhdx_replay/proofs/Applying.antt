@@ -4,9 +4,11 @@
 use mathlib.Core.Path.{_≡_, refl, sym, ap, subst, _∙_}
 use mathlib.Core.Bool.{false}
 use mathlib.Core.List.{List, [], _∷_, map}
-use Prim.Native.Nat.{ℕ, _+_, _≤_}
+use Prim.Native.Nat.{ℕ, zero, suc, _+_, _≤_}
+use native.Mathlib.Numerals.{add-one}
 use native.Mathlib.Omega.{arith}
-use lib.ListN.{length, drop, getD}
+use lib.ListN.{length, take, drop, getD, length-map}
+use lib.Seq.{take-all}
 use Rattle.extent.specs.declared.Extent.{Extent}
 use Rattle.extent.specs.Extent.{MiB, shares, part}
 use Rattle.vhdx_header.specs.declared.Header.{Header}
@@ -24,7 +26,7 @@ use Rattle.vhdx_log.specs.Answers.{logOf}
 use Rattle.vhdx_log.proofs.Answering.{log-is}
 use Rattle.vhdx_log.proofs.Sectors.{left-from}
 use Rattle.vhdx_replay.specs.Buffer.{put, zeroed}
-use Rattle.vhdx_replay.specs.Steps.{File, EndBy, write, run, runs, steps}
+use Rattle.vhdx_replay.specs.Steps.{File, EndBy, Step, write, run, runs, steps}
 use Rattle.vhdx_replay.specs.Calls.{file}
 use Rattle.vhdx_replay.specs.Writes.{allWritten, Safe, Writable}
 use Rattle.vhdx_replay.specs.Planned.{extentBy, logExtent, Planned}
@@ -37,6 +39,11 @@ use Rattle.vhdx_replay.proofs.Reading.{Applied, applied, header-of, sam
 written-runs : (ss : List Sector) (f : File) → allWritten ss (f .buffer) ≡ runs (map write ss) f .buffer
 written-runs [] f = refl
 written-runs (s ∷ ss) f = written-runs ss (run (write s) f)
+
+map-take : (k : ℕ) (ss : List Sector) → map write (take k ss) ≡ take k (map write ss)
+map-take zero ss = refl
+map-take (suc k) [] = refl
+map-take (suc k) (s ∷ ss) = ap (λ (v : List Step). write s ∷ v) (map-take k ss)
 
 all-safe : (log : Extent) (m capacity : ℕ) (ss : List Sector) → m ≤ capacity → Whole ss → EndBy m ss → someLies log ss ≡ false → Safe log capacity ss
 all-safe log m capacity [] h w e c = tt
@@ -72,6 +79,12 @@ module _ (b : List ℕ) (n : ℕ) (log : Extent) (w : Work) (p : Planned b n log
 
   pub plan-is : plan b n ≡ apply (w .length) (planned b log w)
   plan-is = sym (p .same) ∙ ap (λ (l : List ℕ). apply (w .length) (sectors (descriptorsLeft l (w .cursor)))) same-log
+
+  -- growth and as many sectors as are counted are all steps
+  pub all-steps : take (w .count + 1) (steps (plan b n)) ≡ steps (plan b n)
+  all-steps =
+      take-all (w .count + 1) (steps (plan b n))
+      (subst (λ (x : Plan). length (steps x) ≤ w .count + 1) (sym plan-is) (omega (arith, length-map (planned b log w) write, p .counted ∙ ap count plan-is)))
 
   pub known : Applied log n (length b) (w .length) (planned b log w)
   known =
@@ -114,7 +127,7 @@ module _ (b : List ℕ) (n : ℕ) (log : Extent) (w : Work) (p : Planned b n log
             ap (λ (x : List ℕ). sectorsLeft x start) (sym s) ∙ e .0
             ∙ ap (λ (x : List ℕ). sectorsLeft x v) (s ∙ grown-log) ∙ ap (sectorsLeft (part b log)) from ∙ left-from (part b log) (w .cursor)
 
-        pub writable : Writable g log start (w .count)
+        pub writable : Writable g log start
         writable =
             let k = known in
             record {
@@ -122,11 +135,12 @@ module _ (b : List ℕ) (n : ℕ) (log : Extent) (w : Work) (p : Planned b n log
               ready = subst (λ (x : List ℕ). Ready x start) s ready;
               settled = subst (λ (x : List ℕ). Settled x start) s (e .1);
               safe = subst (Safe log (length g)) (sym all-left) (all-safe log (w .length) (length g) (planned b log w) (omega (arith, k .fits, grown-long)) (k .whole) (k .ends) (k .clear));
-              counted = p .counted ∙ ap count plan-is ∙ sym (ap length all-left);
             }
 
-        pub replayed : allWritten (sectorsLeft (part g log) start) g ≡ runs (steps (plan b n)) (file b n) .buffer
-        replayed =
-            ap (λ (ss : List Sector). allWritten ss g) all-left ∙ ap (allWritten (planned b log w)) q
-            ∙ written-runs (planned b log w) (record { buffer = zeroed b n (w .length); size = w .length })
-            ∙ ap (λ (x : Plan). runs (steps x) (file b n) .buffer) (sym plan-is)
+        pub replayed : (k : ℕ) → allWritten (take k (sectorsLeft (part g log) start)) g ≡ runs (take (k + 1) (steps (plan b n))) (file b n) .buffer
+        replayed k =
+            ap (λ (ss : List Sector). allWritten (take k ss) g) all-left ∙ ap (allWritten (take k (planned b log w))) q
+            ∙ written-runs (take k (planned b log w)) (record { buffer = zeroed b n (w .length); size = w .length })
+            ∙ ap (λ (v : List Step). runs v (record { buffer = zeroed b n (w .length); size = w .length }) .buffer) (map-take k (planned b log w))
+            ∙ ap (λ (j : ℕ). runs (take j (steps (apply (w .length) (planned b log w)))) (file b n) .buffer) (sym (add-one k))
+            ∙ ap (λ (x : Plan). runs (take (k + 1) (steps x)) (file b n) .buffer) (sym plan-is)

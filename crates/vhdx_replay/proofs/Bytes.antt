@@ -64,3 +64,8 @@ module _ (r : List ℕ) (a e : ℕ) (le : a ≤ e) (h : e ≤ length r) where
 
   pub zeroed-low : (i : ℕ) → i < a → getD (zeroed r a e) i 0 ≡ getD r i 0
   zeroed-low i p = put-out r a (replicate (e - a) 0) zeros-fit i (λ x. omega (arith, x .0))
+
+  pub zeroed-high : (i : ℕ) → e ≤ i → getD (zeroed r a e) i 0 ≡ getD r i 0
+  zeroed-high i p =
+      let n : length {A = ℕ} (replicate (e - a) 0) ≡ e - a = length-replicate (e - a) 0 in
+      put-out r a (replicate (e - a) 0) zeros-fit i (λ x. omega (arith, n, x .1))

@@ -3,9 +3,10 @@
 use mathlib.Core.Path.{_≡_, refl, sym, ap, subst, _∙_}
 use mathlib.Core.Bool.{Bool, true, false}
 use mathlib.Core.List.{List, [], _∷_}
-use Prim.Native.Nat.{ℕ, _+_, _-_, _≤_, _<_}
+use Prim.Native.Nat.{ℕ, suc, _+_, _-_, _≤_, _<_}
 use native.Mathlib.Omega.{arith}
-use lib.ListN.{length, drop}
+use lib.ListN.{length, take, drop}
+use lib.Seq.{take-nil}
 use Rattle.extent.specs.declared.Extent.{Extent}
 use Rattle.extent.specs.Extent.{shares, part}
 use Rattle.extent.proofs.Laws.{share}
@@ -34,27 +35,27 @@ kept-part b d at log l h inside apart =
 -- ---- the invariant: what is left, written from here, gives what all of them give from the first buffer
 
 pub record Going (first : List ℕ) (log : Extent) (start : Walk) (count : ℕ) (buffer : List ℕ) (walk : Walk) (k : ℕ) : Type 0 where
-  pub writable : Writable first log start count
+  pub writable : Writable first log start
+  pub within : k ≤ count
   pub capacity : length buffer ≡ length first
   pub same-log : part buffer log ≡ part first log
   pub ready : Ready (part first log) walk
   pub settled : Settled (part first log) walk
   pub safe : Safe log (length first) (sectorsLeft (part first log) walk)
-  pub counted : k + length (sectorsLeft (part first log) walk) ≡ count
-  pub leads : allWritten (sectorsLeft (part first log) walk) buffer ≡ allWritten (sectorsLeft (part first log) start) first
+  pub leads : allWritten (take (count - k) (sectorsLeft (part first log) walk)) buffer ≡ allWritten (take count (sectorsLeft (part first log) start)) first
 
 module _ (first : List ℕ) (log : Extent) (start : Walk) (count : ℕ) where
-  pub begin : Writable first log start count → Going first log start count first start 0
+  pub begin : Writable first log start → Going first log start count first start 0
   begin w =
       record {
         writable = w;
+        within = omega arith;
         capacity = refl;
         same-log = refl;
         ready = w .ready;
         settled = w .settled;
         safe = w .safe;
-        counted = omega (arith, w .counted);
-        leads = refl;
+        leads = ap (λ (j : ℕ). allWritten (take j (sectorsLeft (part first log) start)) first) {x = count - 0} {y = count} (omega arith);
       }
 
   module _ (buffer : List ℕ) (walk : Walk) (k : ℕ) (g : Going first log start count buffer walk k) where
@@ -71,17 +72,21 @@ module _ (first : List ℕ) (log : Extent) (start : Walk) (count : ℕ) where
         (g .ready, g .settled, subst (λ (c : ℕ). firstFits (sectorsLeft (part first log) walk) c) (sym (g .capacity)) (first-safe (sectorsLeft (part first log) walk) (g .safe)))
 
     -- a turn
-    turned : (l : List Sector) {l′ : List Sector} {b′ : List ℕ} → Safe log (length first) l → k < count → k + length l ≡ count → l′ ≡ drop 1 l → b′ ≡ firstWritten l buffer
-        → (length b′ ≡ length first) × (part b′ log ≡ part first log) × Safe log (length first) l′ × (k + 1 + length l′ ≡ count) × (allWritten l′ b′ ≡ allWritten l buffer)
-    turned [] safe below counted e b = absurd (omega arith)
-    turned (s ∷ l) safe below counted e b =
+    turned : (l : List Sector) {l′ : List Sector} {b′ : List ℕ} → Safe log (length first) l → k < count → l′ ≡ drop 1 l → b′ ≡ firstWritten l buffer
+        → (length b′ ≡ length first) × (part b′ log ≡ part first log) × Safe log (length first) l′ × (allWritten (take (count - (k + 1)) l′) b′ ≡ allWritten (take (count - k) l) buffer)
+    turned [] safe below e b = (
+      ap length b ∙ g .capacity,
+      ap (λ (x : List ℕ). part x log) b ∙ g .same-log,
+      rw e tt,
+      rw (e, b, take-nil {A = Sector} (count - (k + 1)), take-nil {A = Sector} (count - k)),
+    )
+    turned (s ∷ l) safe below e b =
         let fits : s .offset + 4096 ≤ length buffer = omega (arith, safe .0 .1, g .capacity) in
         let long : length (put buffer (s .offset) (s .bytes)) ≡ length buffer = put-length buffer (s .offset) (s .bytes) (omega (arith, safe .0 .0, fits)) in (
           ap length b ∙ long ∙ g .capacity,
           ap (λ (x : List ℕ). part x log) b ∙ kept-part buffer (s .bytes) (s .offset) log (safe .0 .0) fits inside-now (safe .0 .2) ∙ g .same-log,
           rw e (safe .1),
-          rw e (omega arith),
-          rw (e, b),
+          rw (e, b) (sym (ap (λ (j : ℕ). allWritten (take j (s ∷ l)) buffer) {x = count - k} {y = suc (count - (k + 1))} (omega arith))),
         )
 
     pub more : (b′ : List ℕ) (walk′ : Walk) → k < count → b′ ≡ firstWritten (sectorsLeft (part buffer log) walk) buffer → Ready (part buffer log) walk′
@@ -89,21 +94,17 @@ module _ (first : List ℕ) (log : Extent) (start : Walk) (count : ℕ) where
     more b′ walk′ below written ready next =
         let w = subst (λ (l : List ℕ). b′ ≡ firstWritten (sectorsLeft l walk) buffer) (g .same-log) written in
         let n = subst (λ (l : List ℕ). (sectorsLeft l walk′ ≡ drop 1 (sectorsLeft l walk)) × Settled l walk′) (g .same-log) next in
-        let t = turned (sectorsLeft (part first log) walk) (g .safe) below (g .counted) (n .0) w in
+        let t = turned (sectorsLeft (part first log) walk) (g .safe) below (n .0) w in
         record {
           writable = g .writable;
+          within = omega arith;
           capacity = t .0;
           same-log = t .1;
           ready = subst (λ (l : List ℕ). Ready l walk′) (g .same-log) ready;
           settled = n .1;
           safe = t .2;
-          counted = t .3;
-          leads = t .4 ∙ g .leads;
+          leads = t .3 ∙ g .leads;
         }
 
-    ended : (l : List Sector) → k + length l ≡ count → count ≤ k → buffer ≡ allWritten l buffer
-    ended [] e h = refl
-    ended (s ∷ l) e h = absurd (omega arith)
-
-    pub done : count ≤ k → buffer ≡ allWritten (sectorsLeft (part first log) start) first
-    done h = ended (sectorsLeft (part first log) walk) (g .counted) h ∙ g .leads
+    pub done : count ≤ k → buffer ≡ allWritten (take count (sectorsLeft (part first log) start)) first
+    done h = ap (λ (j : ℕ). allWritten (take j (sectorsLeft (part first log) walk)) buffer) {x = 0} {y = count - k} (omega arith) ∙ g .leads

@@ -15,7 +15,7 @@ use Rattle.vhdx_log.specs.Work.{Sector, apply}
 use Rattle.vhdx_replay.specs.Steps.{File, end, In, Named, EndBy, Step, grow, write, run, runs, Torn, Ran, stop, torn, next, steps, admitted, stepsOf}
 use Rattle.vhdx_replay.specs.Calls.{planOf, Call, attach, step, Calls, then}
 use Rattle.vhdx_replay.specs.Calls
-use Rattle.vhdx_replay.proofs.Bytes.{lt-or-le, put-length, put-in, put-out, zeroed-length, zeroed-in, zeroed-low}
+use Rattle.vhdx_replay.proofs.Bytes.{lt-or-le, put-length, put-in, put-out, zeroed-length, zeroed-in, zeroed-low, zeroed-high}
 
 abbrev pub All : (Step → Type 0) → List Step → Type 0
 All P [] = Unit {0}
@@ -90,7 +90,7 @@ pub writes-good : (m : ℕ) (ss ts : List Sector) → EndBy m ts → ((i : ℕ) 
 writes-good m ss [] e n = tt
 writes-good m ss (t ∷ ts) e n = ((e .0, λ i x. n i (inl x)), writes-good m ss ts (e .1) (λ i x. n i (inr x)))
 
-admitted-good : (P : Step → Type 0) (w : List Step) (k size : ℕ) → All P w → All P (stepsOf (admitted size (getElem? w k)))
+pub admitted-good : (P : Step → Type 0) (w : List Step) (k size : ℕ) → All P w → All P (stepsOf (admitted size (getElem? w k)))
 admitted-good P [] k size a = tt
 admitted-good P (grow m ∷ w) zero size a = (a .0, tt)
 admitted-good P (write s ∷ w) zero size a = fit (leb (end s) size)
@@ -99,6 +99,20 @@ admitted-good P (write s ∷ w) zero size a = fit (leb (end s) size)
     fit true = (a .0, tt)
     fit false = tt
 admitted-good P (s ∷ w) (suc k) size a = admitted-good P w k size (a .1)
+
+-- nothing is written from m on
+pub beyond : (m : ℕ) (ss : List Sector) (i : ℕ) → m ≤ i → (w : List Step) (f : File) → All (Good m ss) w → f .size ≤ m → m ≤ length (f .buffer) → getD (runs w f .buffer) i 0 ≡ getD (f .buffer) i 0
+beyond m ss i h [] f a low fits = refl
+beyond m ss i h (grow k ∷ w) f a low fits =
+    let e : k ≡ m = a .0 in
+    let s : f .size ≤ k = omega arith in
+    let b : k ≤ length (f .buffer) = omega arith in
+    beyond m ss i h w (run (grow k) f) (a .1) (omega arith) (omega (arith, zeroed-length (f .buffer) (f .size) k s b))
+    ∙ zeroed-high (f .buffer) (f .size) k s b i (omega arith)
+beyond m ss i h (write s ∷ w) f a low fits =
+    let b : end s ≤ length (f .buffer) = omega (arith, a .0 .0) in
+    beyond m ss i h w (run (write s) f) (a .1) low (omega (arith, put-length (f .buffer) (s .offset) (s .bytes) b))
+    ∙ put-out (f .buffer) (s .offset) (s .bytes) b i (λ x. omega (arith, x .1, a .0 .0))
 
 -- ---- writing all sectors brings two buffers together that agree elsewhere
 

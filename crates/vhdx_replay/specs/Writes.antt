@@ -32,9 +32,8 @@ Safe log capacity (s ∷ ss) =
     ((length (s .bytes) ≡ 4096) × (s .offset + 4096 ≤ capacity) × (shares (s .offset) 4096 (log .offset) (log .length) ≡ false)) × Safe log capacity ss
 
 -- the sectors that a walk has before it can be written
-pub record Writable (buffer : List ℕ) (log : Extent) (walk : Walk) (count : ℕ) : Type 0 where
+pub record Writable (buffer : List ℕ) (log : Extent) (walk : Walk) : Type 0 where
   pub inside : log .offset + log .length ≤ length buffer
   pub ready : Ready (part buffer log) walk
   pub settled : Settled (part buffer log) walk
   pub safe : Safe log (length buffer) (sectorsLeft (part buffer log) walk)
-  pub counted : count ≡ length (sectorsLeft (part buffer log) walk)

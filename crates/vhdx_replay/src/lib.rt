@@ -11,7 +11,7 @@ use vhdx_log::walk::Next;
 use vhdx_log::walk::Walk;
 ghost use mathlib.Core.Path.{_≡_};
 ghost use Prim.Native.Nat.{_+_, _≤_};
-ghost use lib.ListN.{length as lengthOf, drop};
+ghost use lib.ListN.{length as lengthOf, take, drop};
 ghost use Rattle.extent.specs.Extent.{part as partOf};
 ghost use Rattle.decision.specs.Refusal.{refusalOf};
 ghost use Rattle.vhdx_log.specs.Plan.{plan};
@@ -23,7 +23,7 @@ ghost use Rattle.vhdx_replay.specs.Writes.{firstFits, firstWritten, allW
 ghost use Rattle.vhdx_replay.specs.Planned.{logExtent, Planned};
 
 // Step 0: zeros from the given length up to the final one, upward, so that growth that is interrupted is shorter growth.
-pub fn grow(buffer: &mut [u8], from: u64, to: u64)
+fn grow(buffer: &mut [u8], from: u64, to: u64)
     requires { ⌜ (from ≤ to) × (to ≤ lengthOf (now buffer)) ⌝ }
     ensures { λ _. ⌜ now (buffer .exit) ≡ zeroed (now (buffer .entry)) from to ⌝ }
 {
@@ -43,18 +43,18 @@ pub fn log_extent(buffer: &[u8], length: u64) -> Extent
     }
 }
 
-// All steps of the planned work: growth, then its sectors in their order.
-pub fn all(buffer: &mut [u8], length: u64, log: Extent, work: Work)
+// The first steps of the planned work: growth, then `count` of its sectors in their order, or all where it has no more.
+pub fn first_steps(buffer: &mut [u8], length: u64, log: Extent, work: Work, count: u64)
     requires { ⌜ Planned (now buffer) length log work ⌝ }
-    ensures { λ _. ⌜ now (buffer .exit) ≡ runs (steps (plan (now (buffer .entry)) length)) (file (now (buffer .entry)) length) .buffer ⌝ }
+    ensures { λ _. ⌜ now (buffer .exit) ≡ runs (take (count + 1) (steps (plan (now (buffer .entry)) length))) (file (now (buffer .entry)) length) .buffer ⌝ }
 {
     grow(buffer, length, work.length);
     let start = walk::from(work.cursor).forward(extent::part(buffer, log), 0);
-    write_all(buffer, log, start, work.count);
+    write_sectors(buffer, log, start, count);
 }
 
 // Sector i of the planned work alone, which is step i + 1, and 0; or refusal 21 or 22.
-pub fn one(buffer: &mut [u8], length: u64, log: Extent, work: Work, i: u64) -> u64
+pub fn one_sector(buffer: &mut [u8], length: u64, log: Extent, work: Work, i: u64) -> u64
     requires { ⌜ Planned (now buffer) length log work ⌝ }
     ensures { λ r. ⌜ r ≡ refusalOf (chosen (plan (now (buffer .entry)) length) (i + 1) length) ⌝ }
     ensures { λ r. ⌜ now (buffer .exit) ≡ runs (single (plan (now (buffer .entry)) length) (i + 1) length) (file (now (buffer .entry)) length) .buffer ⌝ }
@@ -89,10 +89,10 @@ fn write_next(buffer: &mut [u8], log: Extent, walk: Walk) -> Walk
     }
 }
 
-// The count sectors that a walk has before it, one a call, in their order.
-fn write_all(buffer: &mut [u8], log: Extent, start: Walk, count: u64)
-    requires { ⌜ Writable (now buffer) log start count ⌝ }
-    ensures { λ _. ⌜ now (buffer .exit) ≡ allWritten (sectorsLeft (partOf (now (buffer .entry)) log) start) (now (buffer .entry)) ⌝ }
+// The first `count` of the sectors that a walk has before it, one a call, in their order.
+fn write_sectors(buffer: &mut [u8], log: Extent, start: Walk, count: u64)
+    requires { ⌜ Writable (now buffer) log start ⌝ }
+    ensures { λ _. ⌜ now (buffer .exit) ≡ allWritten (take count (sectorsLeft (partOf (now (buffer .entry)) log) start)) (now (buffer .entry)) ⌝ }
 {
     let mut walk = start;
     let mut k = 0;

@@ -14,8 +14,10 @@ returns c =
     let a = w .before .before .before .before .before in
     let s = a .before .before .before .args .answer .now in (
       ap (λ (x : Attached). x .refusal) (a .attach .ensures .0),
-      (a .attach .ensures .1,
-      c .clear-rest .ensures ∙ ap restCleared (w .write .ensures) ∙ all-slots (a .attach .result) s ∙ ap (λ (x : Attached). attachedIn x s) (a .attach .ensures .0)),
+      (
+        a .attach .ensures .1,
+        c .clear-rest .ensures ∙ ap restCleared (w .write .ensures) ∙ all-slots (a .attach .result) s ∙ ap (λ (x : Attached). attachedIn x s) (a .attach .ensures .0),
+      ),
     )
 
 pub shrunvaki-vhdx-attach-spec : {M : Type 1} → statement M

@@ -6,8 +6,8 @@ use borrow.Author.Needs.{needs}
 use Rattle.vhdx.proofs.attach.Statement.{statement}
 use Rattle.vhdx.proofs.attach.Tie as tie
 
-all-requires : tie.Need-all-requires
-all-requires c κs =
+first-steps-requires : tie.Need-first-steps-requires
+first-steps-requires c κs =
     let l = c .before in
     let w = l .before .before .before in
     let r = w .before .before in
@@ -23,7 +23,7 @@ read-requires c κs =
     let a = r .before .before .before .args in
     let p = work-planned (a .buffer .now) (a .length) (r .plan .result) (r .plan .ensures) (w .work .given .1) (l .log-extent .ensures) in (
       holds-first (a .buffer .now) (a .length) (l .log-extent .result) _ p,
-      fits (a .buffer .now) (a .length) (l .log-extent .result) _ p (d .all .last .0) (d .all .ensures),
+      fits (a .buffer .now) (a .length) (l .log-extent .result) _ p (d .first-steps .last .0) (d .first-steps .ensures),
     )
 
 returns : tie.Need-returns
@@ -41,8 +41,8 @@ returns-2 c =
     let r = w .before .before in
     let a = r .before .before .before .args in
     let p = work-planned (a .buffer .now) (a .length) (r .plan .result) (r .plan .ensures) (w .work .given .1) (l .log-extent .ensures) in (
-      c .read .ensures ∙ answer (a .buffer .now) (a .length) (l .log-extent .result) _ p (d .all .last .0) (d .all .ensures),
-      buffer (a .buffer .now) (a .length) (l .log-extent .result) _ p (d .all .last .0) (d .all .ensures),
+      c .read .ensures ∙ answer (a .buffer .now) (a .length) (l .log-extent .result) _ p (d .first-steps .last .0) (d .first-steps .ensures),
+      buffer (a .buffer .now) (a .length) (l .log-extent .result) _ p (d .first-steps .last .0) (d .first-steps .ensures),
     )
 
 pub attach-spec : {M : Type 1} → statement M
@@ -54,7 +54,7 @@ attach-spec =
     (λ c κs. search needs)
     (λ c. search needs)
     (λ c κs. search needs)
-    all-requires
+    first-steps-requires
     read-requires
     (λ c. search needs)
     returns

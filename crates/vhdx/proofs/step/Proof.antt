@@ -1,42 +1,38 @@
 -- `vhdx::step` meets its contract: a refusal, growth, or a sector.
 -- Assumes nothing.
-use mathlib.Core.Path.{refl, _∙_}
 use Prim.Native.Nat.{_<_}
 use native.Mathlib.Omega.{arith}
-use Rattle.vhdx_replay.specs.Planned.{logExtent}
-use Rattle.vhdx_replay.proofs.Applying.{known}
 use Rattle.vhdx.proofs.Attaching.{plan-refused, work-planned}
 use Rattle.vhdx.proofs.Stepping.{refused-step, refused-after, grown-step, grown-after, sector-step, sector-after}
 use borrow.Author.Needs.{needs}
 use Rattle.vhdx.proofs.step.Statement.{statement}
 use Rattle.vhdx.proofs.step.Tie as tie
 
-grow-requires : tie.Need-grow-requires
-grow-requires c κs =
-    let w = c .before .before .before in
+first-steps-requires : tie.Need-first-steps-requires
+first-steps-requires c κs =
+    let l = c .before .before in
+    let w = l .before .before .before in
     let r = w .before .before in
     let a = r .before .before .before .args in
-    let p = work-planned (a .buffer .now) (a .length) (r .plan .result) (r .plan .ensures) (w .work .given .1) refl in
-    let k = known (a .buffer .now) (a .length) (logExtent (a .buffer .now) (a .length)) _ p in
-    (k .grows, k .fits)
+    work-planned (a .buffer .now) (a .length) (r .plan .result) (r .plan .ensures) (w .work .given .1) (l .log-extent .ensures)
 
 returns : tie.Need-returns
 returns c =
     let g = c .before .before in
     let t = g .before .before in
-    let w = t .before .before in
+    let l = t .before in
+    let w = l .before .before .before in
     let r = w .before .before in
     let a = r .before .before .before .args in
-    let p = work-planned (a .buffer .now) (a .length) (r .plan .result) (r .plan .ensures) (w .work .given .1) refl in
-    let log = logExtent (a .buffer .now) (a .length) in (
-      grown-step (a .buffer .now) (a .length) (a .k) log _ p (t .if1 .taken),
-      g .grow .ensures ∙ grown-after (a .buffer .now) (a .length) (a .k) log _ p (t .if1 .taken),
+    let p = work-planned (a .buffer .now) (a .length) (r .plan .result) (r .plan .ensures) (w .work .given .1) (l .log-extent .ensures) in (
+      grown-step (a .buffer .now) (a .length) (a .k) (l .log-extent .result) _ p (t .if1 .taken),
+      grown-after (a .buffer .now) (a .length) (a .k) (l .log-extent .result) _ p (t .if1 .taken) (g .first-steps .last .0) (g .first-steps .ensures),
     )
 
-one-requires : tie.Need-one-requires
-one-requires c κs =
-    let l = c .before in
-    let w = l .before .before .before .before in
+one-sector-requires : tie.Need-one-sector-requires
+one-sector-requires c κs =
+    let l = c .before .before in
+    let w = l .before .before .before in
     let r = w .before .before in
     let a = r .before .before .before .args in
     work-planned (a .buffer .now) (a .length) (r .plan .result) (r .plan .ensures) (w .work .given .1) (l .log-extent .ensures)
@@ -51,15 +47,15 @@ returns-2 c =
 returns-3 : tie.Need-returns-3
 returns-3 c =
     let o = c .before .before in
-    let l = o .before .before in
-    let i = l .before .before in
-    let w = i .before .before in
+    let i = o .before .before in
+    let l = i .before in
+    let w = l .before .before .before in
     let r = w .before .before in
     let a = r .before .before .before .args in
     let p = work-planned (a .buffer .now) (a .length) (r .plan .result) (r .plan .ensures) (w .work .given .1) (l .log-extent .ensures) in
     let h : 0 < a .k = omega arith in (
-      sector-step (a .buffer .now) (a .length) (a .k) (l .log-extent .result) _ p h (o .one .result) (o .one .ensures .0),
-      sector-after (a .buffer .now) (a .length) (a .k) (l .log-extent .result) _ p h (o .one .last .0) (o .one .ensures .1),
+      sector-step (a .buffer .now) (a .length) (a .k) (l .log-extent .result) _ p h (o .one-sector .result) (o .one-sector .ensures .0),
+      sector-after (a .buffer .now) (a .length) (a .k) (l .log-extent .result) _ p h (o .one-sector .last .0) (o .one-sector .ensures .1),
     )
 
 pub step-spec : {M : Type 1} → statement M
@@ -69,12 +65,12 @@ step-spec =
     (λ c κs. search needs)
     (λ c. search needs)
     (λ c. search needs)
-    grow-requires
+    (λ c κs. search needs)
+    first-steps-requires
     (λ c. search needs)
     returns
-    (λ c κs. search needs)
     (λ c. search needs)
-    one-requires
+    one-sector-requires
     (λ c. search needs)
     returns-2
     (λ c. search needs)

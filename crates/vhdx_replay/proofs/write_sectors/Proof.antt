@@ -1,10 +1,10 @@
--- `vhdx_replay::write_all` meets its contract: what is left, written from here, gives what all of them give.
+-- `vhdx_replay::write_sectors` meets its contract: what is left, written from here, gives what all of them give.
 -- Assumes nothing.
 use Prim.Native.Nat.{_-_}
 use native.Mathlib.Omega.{arith}
 use Rattle.vhdx_replay.proofs.Loop.{Going, begin, inside-now, writable-now, more, done}
-use Rattle.vhdx_replay.proofs.write_all.Statement.{statement}
-use Rattle.vhdx_replay.proofs.write_all.Tie as tie
+use Rattle.vhdx_replay.proofs.write_sectors.Statement.{statement}
+use Rattle.vhdx_replay.proofs.write_sectors.Tie as tie
 
 abbrev Inv-loop : tie.InvT-loop
 Inv-loop buffer₀ log count walk₀ k₀ buffer walk k = Going buffer₀ log walk₀ count buffer walk k
@@ -47,8 +47,8 @@ returns c =
     let a = l .before .before .args in
     done (a .buffer .now) (a .log) (a .start) (a .count) (l .loop .buffer) (l .loop .walk) (l .loop .k) (l .loop .inv) (c .loop-test .left)
 
-pub write-all-spec : {M : Type 1} → statement M
-write-all-spec =
+pub write-sectors-spec : {M : Type 1} → statement M
+write-sectors-spec =
     tie.close
     (tie.spec
     Inv-loop

@@ -1,11 +1,11 @@
--- `vhdx_replay::one` meets its contract: no such sector, one that ends past the given length, or one that is written.
+-- `vhdx_replay::one_sector` meets its contract: no such sector, one that ends past the given length, or one that is written.
 -- Assumes nothing.
 use mathlib.Core.Path.{sym, _∙_}
 use Rattle.vhdx_replay.proofs.Applying.{inside}
 use Rattle.vhdx_replay.proofs.Chosen.{nth-ready, no-sector, past-the-end, written, fits, held}
 use borrow.Author.Needs.{needs}
-use Rattle.vhdx_replay.proofs.one.Statement.{statement}
-use Rattle.vhdx_replay.proofs.one.Tie as tie
+use Rattle.vhdx_replay.proofs.one_sector.Statement.{statement}
+use Rattle.vhdx_replay.proofs.one_sector.Tie as tie
 
 part-requires : tie.Need-part-requires
 part-requires c κs =
@@ -70,8 +70,8 @@ returns-3 c =
     past-the-end (s .args .buffer .now) (s .args .length) (s .args .log) (s .args .work) (s .pre) (s .args .i) (p .part .result .now) (p .part .ensures .0)
     (f .from .result) (f .from .ensures) (n .nth .result) (n .nth .ensures .0) _ (a .s .given .1) (sym (c .if1 .left) ∙ i .is-inside .ensures)
 
-pub one-spec : {M : Type 1} → statement M
-one-spec =
+pub one-sector-spec : {M : Type 1} → statement M
+one-sector-spec =
     tie.close
     (tie.spec
     (λ c κs. search needs)

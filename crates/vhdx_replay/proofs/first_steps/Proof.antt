@@ -1,10 +1,10 @@
--- `vhdx_replay::all` meets its contract: growth leaves the log, and all sectors written is what the steps give.
+-- `vhdx_replay::first_steps` meets its contract: growth leaves the log, and the sectors written are what the steps give.
 -- Assumes nothing.
 use mathlib.Core.Path.{_∙_}
 use Rattle.vhdx_replay.proofs.Applying.{known, grown-inside, start-ready, writable, replayed}
 use borrow.Author.Needs.{needs}
-use Rattle.vhdx_replay.proofs.all.Statement.{statement}
-use Rattle.vhdx_replay.proofs.all.Tie as tie
+use Rattle.vhdx_replay.proofs.first_steps.Statement.{statement}
+use Rattle.vhdx_replay.proofs.first_steps.Tie as tie
 
 grow-requires : tie.Need-grow-requires
 grow-requires c κs =
@@ -26,8 +26,8 @@ forward-requires c κs =
     start-ready (s .args .buffer .now) (s .args .length) (s .args .log) (s .args .work) (s .pre) (g .grow .last .0) (g .grow .ensures)
     (c .part .result .now) (c .part .ensures .0) (f .from .result) (f .from .ensures)
 
-write-all-requires : tie.Need-write-all-requires
-write-all-requires c κs =
+write-sectors-requires : tie.Need-write-sectors-requires
+write-sectors-requires c κs =
     let w = c .before in
     let p = w .before in
     let f = p .before .before in
@@ -44,18 +44,18 @@ returns c =
     let f = p .before .before in
     let g = f .before .before .before in
     let s = g .before .before .before in
-    a .write-all .ensures
+    a .write-sectors .ensures
     ∙ replayed (s .args .buffer .now) (s .args .length) (s .args .log) (s .args .work) (s .pre) (g .grow .last .0) (g .grow .ensures)
-    (p .part .result .now) (p .part .ensures .0) (f .from .result) (f .from .ensures) (w .forward .result) (w .forward .ensures .0) (w .forward .ensures .1)
+    (p .part .result .now) (p .part .ensures .0) (f .from .result) (f .from .ensures) (w .forward .result) (w .forward .ensures .0) (w .forward .ensures .1) (s .args .count)
 
-pub all-spec : {M : Type 1} → statement M
-all-spec =
+pub first-steps-spec : {M : Type 1} → statement M
+first-steps-spec =
     tie.close
     (tie.spec
     grow-requires
     (λ c κs. search needs)
     part-requires
     forward-requires
-    write-all-requires
+    write-sectors-requires
     (λ c. search needs)
     returns)
