@@ -2,6 +2,7 @@
 //! order of refusals. Each expected answer is written from document 01.
 use shrunvaki_host::api;
 use shrunvaki_host::image::MIB;
+use shrunvaki_host::pending::usual_facts;
 use shrunvaki_host::tables::{
     locator, stored, Change, Disk, Item, Region, RegionTable, BAT, DISK_ID, DISK_SIZE,
     FILE_PARAMETERS, IS_REQUIRED, IS_USER, LOCATOR, LOCATOR_TYPE, LOGICAL, METADATA, PHYSICAL,
@@ -80,20 +81,7 @@ fn extent(offset: u64, length: u64) -> Extent {
 
 #[test]
 fn facts_without_a_parent() {
-    assert_eq!(
-        read(&Disk::default()),
-        Ok(Facts {
-            logical_sector_size: 512,
-            physical_sector_size: 4096,
-            block_size: 32 << 20,
-            disk_size: 1 << 30,
-            has_parent: false,
-            disk_id: *b"0123456789abcdef",
-            bat: extent(3 * M, M),
-            metadata: extent(2 * M, M),
-            locator: extent(0, 0),
-        })
-    );
+    assert_eq!(read(&Disk::default()), Ok(usual_facts()));
 }
 
 #[test]

@@ -3,7 +3,7 @@
 use mathlib.Core.Path.{_≡_, refl, sym, ap, subst, _∙_}
 use mathlib.Core.List.{List, [], _∷_, map}
 use mathlib.Core.Logic.{inl}
-use Prim.Native.Nat.{ℕ, _+_, _≤_, _<_}
+use Prim.Native.Nat.{ℕ, _+_, _≤_}
 use native.Mathlib.Omega.{arith}
 use lib.ListN.{length, take, getD}
 use lib.Seq.{length-take-le, take-take}
@@ -13,7 +13,6 @@ use Rattle.vhdx_facts.specs.declared.Facts.{Facts}
 use Rattle.vhdx_facts.specs.Ranges.{noFacts}
 use Rattle.vhdx_header.specs.Current.{firstMiB}
 use Rattle.vhdx_header.proofs.Laws.{accepted, read-again}
-use Rattle.vhdx_tables.specs.declared.Reading.{Reading}
 use Rattle.vhdx_tables.specs.Tables.{tables, reading}
 use Rattle.vhdx_log.specs.declared.Answer.{Answer}
 use Rattle.vhdx_log.specs.declared.Answer.the-variants.{Refused, Apply}

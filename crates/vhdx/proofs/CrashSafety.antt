@@ -2,12 +2,12 @@
 -- of it depends on nothing else.
 -- Assumes nothing.
 use mathlib.Core.Path.{_≡_, refl, sym, ap, subst, _∙_}
-use mathlib.Core.List.{List, [], _∷_, map}
+use mathlib.Core.List.{List}
 use mathlib.Core.Logic.{inl, inr}
-use mathlib.Core.Option.{none, some}
-use Prim.Native.Nat.{ℕ, _+_, _≤_, _<_}
+use mathlib.Core.Option.{none}
+use Prim.Native.Nat.{ℕ}
 use native.Mathlib.Omega.{arith}
-use lib.ListN.{length, take, getD}
+use lib.ListN.{length, take}
 use Rattle.extent.specs.declared.Extent.{Extent}
 use Rattle.extent.specs.Extent.{part}
 use Rattle.vhdx_header.specs.declared.Header.{Header}
@@ -17,7 +17,7 @@ use Rattle.vhdx_header.proofs.Laws.{accepted}
 use Rattle.vhdx_log.specs.Work.{Sector, Plan, refused, apply}
 use Rattle.vhdx_log.specs.Plan.{extentOf}
 use Rattle.vhdx_replay.specs.Steps.{File, Named, runs, steps, single}
-use Rattle.vhdx_replay.specs.Calls.{planOf, Call, attach, step, Calls}
+use Rattle.vhdx_replay.specs.Calls.{planOf, attach, step, Calls}
 use Rattle.vhdx_replay.specs.Planned.{logExtent}
 use Rattle.vhdx_replay.proofs.Applying.{extent-is}
 use Rattle.vhdx_replay.proofs.Reading.{header-of, reads, same-part, same-first}

@@ -2,7 +2,6 @@
 -- Assumes nothing.
 use mathlib.Core.Path.{sym, ap₂, _∙_}
 use mathlib.Core.List.{List, _++_, map-append}
-use Prim.Native.Nat.{ℕ}
 use Rattle.decision.specs.Examples.{Example, Agree}
 use Rattle.vhdx_map.proofs.Examples as L
 use Rattle.vhdx_log.proofs.Examples as R

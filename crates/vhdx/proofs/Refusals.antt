@@ -2,9 +2,9 @@
 -- Assumes nothing.
 use mathlib.Core.Path.{_≡_, refl, sym, ap, ap₂, _∙_}
 use mathlib.Core.Bool.{Bool, true, false, cond, not, _&&_, _||_}
-use mathlib.Core.List.{List, [], _∷_}
+use mathlib.Core.List.{List, []}
 use mathlib.Core.Option.{Option, none, some}
-use Prim.Native.Nat.{ℕ, _≤_, _<_}
+use Prim.Native.Nat.{ℕ}
 use native.Mathlib.Decide.{decLt}
 use native.Mathlib.Omega.{arith}
 use lib.Dec.{eqb, leb, ltb}
@@ -18,14 +18,14 @@ use Rattle.vhdx_header.specs.declared.Answer.{Answer}
 use Rattle.vhdx_header.specs.declared.Answer.the-variants.{Refused, Current}
 use Rattle.vhdx_header.specs.declared.Header.{Header}
 use Rattle.vhdx_header.specs.Header.{fieldRules, insideRule, contents}
-use Rattle.vhdx_header.specs.Current.{vhdxfile, headerAt, currentOffset, readHeader, readFirstMiB, withinImage, firstMiB, currentHeader}
+use Rattle.vhdx_header.specs.Current.{vhdxfile, headerAt, currentOffset, readHeader, withinImage, firstMiB, currentHeader}
 use Rattle.vhdx_header.proofs.Laws.{readAt, by-offset}
 use Rattle.vhdx_sequence.specs.declared.Sequence.{Sequence}
 use Rattle.vhdx_sequence.specs.Sequence.{activeSequence}
 use Rattle.vhdx_log.specs.Work.{Entries, head, allDescriptors, Sector, sectors, finalLength, someLies, Plan, refused, apply, lengthLimit, applyWithin, work}
 use Rattle.vhdx_log.specs.Plan.{entriesFrom, logBytes, extentOf, planSequence, planLog, planHeader, plan}
 use Rattle.vhdx_replay.specs.Steps.{File}
-use Rattle.vhdx.specs.Refusals.{Row, firstOf, finalOf, ofSome, isNone, headerIn, activeOf, entriesOf, row1, row2, row4, row5, row6, row7, row8, rows, firstRow, refusalOfPlan, ByTheTable}
+use Rattle.vhdx.specs.Refusals.{firstOf, finalOf, ofSome, isNone, headerIn, activeOf, entriesOf, row1, row2, row4, row5, row6, row7, row8, rows, firstRow, refusalOfPlan, ByTheTable}
 
 -- ---- tests, either way round
 

@@ -8,7 +8,7 @@ use native.Mathlib.Numerals.{add-one}
 use native.Mathlib.Omega.{arith}
 use lib.Dec.{leb}
 use lib.ListN.{take, getElem?}
-use Rattle.decision.specs.Refusal.{Outcome, refused, answered, check, refusalOf}
+use Rattle.decision.specs.Refusal.{refused, answered, check, refusalOf}
 use Rattle.extent.specs.declared.Extent.{Extent}
 use Rattle.vhdx_log.specs.declared.Work.{Work}
 use Rattle.vhdx_log.specs.Work.{Sector, Plan, refused as unplanned, apply}

@@ -24,7 +24,7 @@ use Rattle.vhdx_log.specs.Work.{Entries, head, allDescriptors, Sector, s
 use Rattle.vhdx_log.specs.Plan.{entriesFrom, logBytes, extentOf, planSequence, planLog, planHeader, plan}
 
 -- a plan that is no refusal passed the test
-passed : (t : Bool) (c : ℕ) (p : Plan) {m : ℕ} {ss : List Sector} → check t (refused c) p ≡ apply m ss → (t ≡ true) × (p ≡ apply m ss)
+pub passed : (t : Bool) (c : ℕ) (p : Plan) {m : ℕ} {ss : List Sector} → check t (refused c) p ≡ apply m ss → (t ≡ true) × (p ≡ apply m ss)
 passed true c p h = (refl, h)
 passed false c p h = let z : _≡_ {A = ℕ} 0 1 = cc in absurd (omega arith)
 

@@ -25,7 +25,7 @@ use Rattle.vhdx_log.specs.Walk.{sectorsLeft, walkFrom, Ready, Settled}
 use Rattle.vhdx_log.specs.Answers.{logOf}
 use Rattle.vhdx_log.proofs.Answering.{log-is}
 use Rattle.vhdx_log.proofs.Sectors.{left-from}
-use Rattle.vhdx_replay.specs.Buffer.{put, zeroed}
+use Rattle.vhdx_replay.specs.Buffer.{zeroed}
 use Rattle.vhdx_replay.specs.Steps.{File, EndBy, Step, write, run, runs, steps}
 use Rattle.vhdx_replay.specs.Calls.{file}
 use Rattle.vhdx_replay.specs.Writes.{allWritten, Safe, Writable}

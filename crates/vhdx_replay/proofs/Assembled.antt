@@ -5,17 +5,14 @@ use mathlib.Core.Logic.{_⊎_, ⊎-elim}
 use mathlib.Core.List.{List, _++_}
 use Prim.Native.Nat.{ℕ, _+_, _-_, _≤_, _<_}
 use native.Mathlib.Omega.{arith}
-use lib.ListN.{length, take, drop, getD, length-append, length-drop, List·getD-append}
-use lib.Seq.{length-take-le, getD-append-add, getD-take, getD-drop, ext-getD}
+use lib.ListN.{length, take, drop, getD, length-append, List·getD-append}
+use lib.Seq.{getD-append-add, getD-take, getD-drop, ext-getD}
 use Rattle.vhdx_replay.specs.Buffer.{put}
-use Rattle.vhdx_replay.proofs.Bytes.{lt-or-le, put-length, put-in, put-out}
+use Rattle.vhdx_replay.proofs.Bytes.{part-long, lt-or-le, put-length, put-in, put-out}
 
 module _ (z s l t : List ℕ) (n : ℕ) (p : length s ≡ length z) (q : length l + n + length t ≡ length s) where
-  middle : List ℕ
-  middle = take n (drop (length l) s)
-
   middle-long : length (take n (drop (length l) s)) ≡ n
-  middle-long = length-take-le n (drop (length l) s) (simp length-drop (omega arith))
+  middle-long = part-long s (length l) n (omega arith)
 
   one : length (put z 0 s) ≡ length z
   one = put-length z 0 s (omega arith)
@@ -86,10 +83,10 @@ inner-part s at w a n h b =
     ∙ sym (getD-take n (drop (at + a) s) i 0 d ∙ getD-drop (at + a) s i 0))
   where
     outer : length (take w (drop at s)) ≡ w
-    outer = length-take-le w (drop at s) (simp length-drop (omega arith))
+    outer = part-long s at w h
 
     left : length (take n (drop a (take w (drop at s)))) ≡ n
-    left = length-take-le n (drop a (take w (drop at s))) (simp length-drop (omega (arith, outer)))
+    left = part-long (take w (drop at s)) a n (omega (arith, outer))
 
     right : length (take n (drop (at + a) s)) ≡ n
-    right = length-take-le n (drop (at + a) s) (simp length-drop (omega arith))
+    right = part-long s (at + a) n (omega arith)

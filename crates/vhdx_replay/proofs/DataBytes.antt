@@ -4,19 +4,16 @@ use mathlib.Core.Path.{_≡_, sym, ap, ap₂, _∙_}
 use mathlib.Core.List.{List, _++_}
 use Prim.Native.Nat.{ℕ, _+_, _-_, _≤_}
 use native.Mathlib.Omega.{arith}
-use lib.ListN.{length, take, drop, length-drop}
-use lib.Seq.{length-take-le}
+use lib.ListN.{length, take, drop}
 use Rattle.vhdx_entry.specs.Entry.{leadingBytes, trailingBytes}
 use Rattle.vhdx_log.specs.Plan.{sectorBytes}
 use Rattle.vhdx_replay.specs.Buffer.{put}
+use Rattle.vhdx_replay.proofs.Bytes.{part-long}
 use Rattle.vhdx_replay.proofs.Assembled.{assembled, inner-part}
 
 -- n bytes at an offset, as the code takes them by start and end
 taken : (s : List ℕ) (a e n : ℕ) → e ≡ a + n → take (e - a) (drop a s) ≡ take n (drop a s)
 taken s a e n p = ap (λ (k : ℕ). take k (drop a s)) {x = e - a} {y = n} (omega arith)
-
-long : (s : List ℕ) (a n : ℕ) → a + n ≤ length s → length (take n (drop a s)) ≡ n
-long s a n h = length-take-le n (drop a s) (simp length-drop (omega arith))
 
 module _ (log z : List ℕ) (d s : ℕ) (p : length z ≡ 4096) (q : d + 32 ≤ length log) (r : s + 4096 ≤ length log) where
   lead : take 8 (drop (d + 8) log) ≡ leadingBytes (take 32 (drop d log))
@@ -32,9 +29,9 @@ module _ (log z : List ℕ) (d s : ℕ) (p : length z ≡ 4096) (q : d + 32 ≤ 
       let sector = take 4096 (drop s log) in
       let l = leadingBytes (take 32 (drop d log)) in
       let t = trailingBytes (take 32 (drop d log)) in
-      let ls : length sector ≡ 4096 = long log s 4096 r in
-      let ll : length l ≡ 8 = sym (ap length lead) ∙ long log (d + 8) 8 (omega arith) in
-      let lt : length t ≡ 4 = sym (ap length trail) ∙ long log (d + 4) 4 (omega arith) in
+      let ls : length sector ≡ 4096 = part-long log s 4096 r in
+      let ll : length l ≡ 8 = sym (ap length lead) ∙ part-long log (d + 8) 8 (omega arith) in
+      let lt : length t ≡ 4 = sym (ap length trail) ∙ part-long log (d + 4) 4 (omega arith) in
       let done = assembled z sector l t 4084 (omega (arith, ls, p)) (omega (arith, ls, ll, lt)) in
       ap₂ (λ (x y : List ℕ). put (put (put z 0 sector) 0 x) 4092 y) lead trail
       ∙ ap (λ (k : ℕ). put (put (put z 0 sector) 0 l) k t) {x = 4092} {y = length l + 4084} (omega (arith, ll))

@@ -1,7 +1,7 @@
 -- The loop over a walk's sectors, which are read off the buffer as it changes.
 -- Assumes nothing.
 use mathlib.Core.Path.{_≡_, refl, sym, ap, subst, _∙_}
-use mathlib.Core.Bool.{Bool, true, false}
+use mathlib.Core.Bool.{false}
 use mathlib.Core.List.{List, [], _∷_}
 use Prim.Native.Nat.{ℕ, suc, _+_, _-_, _≤_, _<_}
 use native.Mathlib.Omega.{arith}
@@ -16,10 +16,8 @@ use Rattle.vhdx_log.specs.declared.walk.Walk.{Walk}
 use Rattle.vhdx_replay.specs.Buffer.{put}
 use Rattle.vhdx_replay.specs.Writes.{firstFits, firstWritten, allWritten, Safe, Writable}
 use Rattle.vhdx_replay.proofs.Bytes.{put-length, put-out}
+use Rattle.vhdx_replay.proofs.Sectors.{clash}
 use Rattle.vhdx_replay.proofs.Reading.{same-part}
-
-clash : {t : Bool} {A : Type 0} → t ≡ true → t ≡ false → A
-clash p q = let z : _≡_ {A = ℕ} 0 1 = cc in absurd (omega arith)
 
 -- a write outside an extent leaves its bytes
 kept-part : (b d : List ℕ) (at : ℕ) (log : Extent) → length d ≡ 4096 → at + 4096 ≤ length b → log .offset + log .length ≤ length b

@@ -8,8 +8,8 @@ use mathlib.Core.Option.{Option, none, some}
 use Prim.Native.Nat.{ℕ, _+_, _%_, _≤_, _<_}
 use native.Mathlib.Omega.{arith}
 use lib.Dec.{eqb, leb}
-use lib.ListN.{length, take, drop, getD, length-drop}
-use lib.Seq.{length-take-le, getD-take, getD-drop, ext-getD}
+use lib.ListN.{length, take, drop, getD}
+use lib.Seq.{getD-take, getD-drop, ext-getD}
 use borrow.Author.Tests.{leb-true, not-true}
 use Rattle.decision.specs.Refusal.{check}
 use Rattle.field.specs.declared.Guid.{Guid}
@@ -24,19 +24,16 @@ use Rattle.vhdx_header.proofs.Laws.{accepted}
 use Rattle.vhdx_sequence.specs.declared.Sequence.{Sequence}
 use Rattle.vhdx_sequence.specs.Sequence.{activeSequence}
 use Rattle.vhdx_sequence.proofs.Laws.{found}
-use Rattle.vhdx_log.specs.Work.{Entries, head, allDescriptors, furthest, finalLength, Sector, sectors, someLies, Plan, refused, apply, lengthLimit, applyWithin, work}
+use Rattle.vhdx_log.specs.Work.{Entries, head, allDescriptors, furthest, finalLength, Sector, sectors, someLies, refused, apply, lengthLimit, applyWithin, work}
 use Rattle.vhdx_log.specs.Plan.{entriesFrom, logBytes, extentOf, planSequence, planLog, planHeader, plan}
 use Rattle.vhdx_log.proofs.Chains.{linked-readable}
 use Rattle.vhdx_log.proofs.Answering.{plan-refused, log-placed}
-use Rattle.vhdx_log.proofs.Again.{plan-again}
-use Rattle.vhdx_replay.specs.Steps.{File, Named, EndBy}
+use Rattle.vhdx_log.proofs.Again.{passed, plan-again}
+use Rattle.vhdx_replay.specs.Steps.{File, EndBy}
 use Rattle.vhdx_replay.specs.Calls.{planOf}
+use Rattle.vhdx_replay.proofs.Bytes.{part-long}
 use Rattle.vhdx_replay.proofs.Restart.{Reads}
 use Rattle.vhdx_replay.proofs.Sectors.{AllSized, entries-sized, Whole, all-whole, all-end, Kept, none-kept}
-
-passed : (t : Bool) (c : ℕ) (p : Plan) {m : ℕ} {ss : List Sector} → check t (refused c) p ≡ apply m ss → (t ≡ true) × (p ≡ apply m ss)
-passed true c p h = (refl, h)
-passed false c p h = let z : _≡_ {A = ℕ} 0 1 = cc in absurd (omega arith)
 
 -- ---- what a plan that applies says of its sectors
 
@@ -94,13 +91,10 @@ of-log h bytes n capacity {m} {ss} whole e = go (eqb (number (h .«log_guid»)) 
 
 pub same-part : (a n : ℕ) (r r′ : List ℕ) → length r′ ≡ length r → a + n ≤ length r → ((i : ℕ) → a ≤ i → i < a + n → getD r′ i 0 ≡ getD r i 0) → take n (drop a r′) ≡ take n (drop a r)
 same-part a n r r′ e h s =
-    ext-getD 0 (take n (drop a r′)) (take n (drop a r)) (long r′ (omega arith) ∙ sym (long r h))
+    ext-getD 0 (take n (drop a r′)) (take n (drop a r)) (part-long r′ a n (omega arith) ∙ sym (part-long r a n h))
     (λ i l.
-    let k : i < n = omega (arith, long r′ (omega arith)) in
+    let k : i < n = omega (arith, part-long r′ a n (omega arith)) in
     getD-take n (drop a r′) i 0 k ∙ getD-drop a r′ i 0 ∙ s (a + i) (omega arith) (omega arith) ∙ sym (getD-take n (drop a r) i 0 k ∙ getD-drop a r i 0))
-  where
-    long : (q : List ℕ) → a + n ≤ length q → length (take n (drop a q)) ≡ n
-    long q g = length-take-le n (drop a q) (simp length-drop (omega arith))
 
 pub same-first : (r r′ : List ℕ) → length r′ ≡ length r → MiB ≤ length r → ((i : ℕ) → i < MiB → getD r′ i 0 ≡ getD r i 0) → firstMiB r′ ≡ firstMiB r
 unfolding firstMiB

@@ -9,8 +9,7 @@ use Prim.Native.Nat.{ℕ, zero, suc, _+_, _*_, _/_, _≤_, _<_}
 use native.Mathlib.Nat.{div-mul-le-self}
 use native.Mathlib.Omega.{arith}
 use lib.Dec.{eqb}
-use lib.ListN.{length, take, drop, length-append, length-drop, length-replicate}
-use lib.Seq.{length-take-le}
+use lib.ListN.{length, take, drop, length-append, length-replicate}
 use borrow.Author.Tests.{eqb-true}
 use Rattle.extent.specs.declared.Extent.{Extent}
 use Rattle.extent.specs.Extent.{MiB, shares}
@@ -23,11 +22,9 @@ use Rattle.vhdx_log.specs.Plan.{sectorBytes, descriptorOf, descriptorsFrom, ent
 use Rattle.vhdx_log.specs.Cursor.{Readable, AllReadable}
 use Rattle.vhdx_log.proofs.Parts.{data-rank, size-fits, descriptors-fit}
 use Rattle.vhdx_replay.specs.Steps.{In, Named, EndBy}
+use Rattle.vhdx_replay.proofs.Bytes.{part-long}
 
 -- ---- 4,096 bytes
-
-part-long : (s : List ℕ) (at n : ℕ) → at + n ≤ length s → length (take n (drop at s)) ≡ n
-part-long s at n h = length-take-le n (drop at s) (simp length-drop (omega arith))
 
 sector-long : (d s : List ℕ) → length d ≡ 32 → length s ≡ 4096 → length (sectorBytes d s) ≡ 4096
 unfolding sectorBytes
@@ -144,7 +141,7 @@ neither false b h = (refl, h)
 abbrev pub Kept : Extent → ℕ → Type 0
 Kept log i = (i < MiB) ⊎ ((log .offset ≤ i) × (i < log .offset + log .length))
 
-clash : {t : Bool} {A : Type 0} → t ≡ true → t ≡ false → A
+pub clash : {t : Bool} {A : Type 0} → t ≡ true → t ≡ false → A
 clash p q = let z : _≡_ {A = ℕ} 0 1 = cc in absurd (omega arith)
 
 pub none-kept : (log : Extent) (ss : List Sector) → Whole ss → someLies log ss ≡ false → (i : ℕ) → Kept log i → ¬ Named ss i

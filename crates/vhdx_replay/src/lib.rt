@@ -1,7 +1,7 @@
 // The steps of the log's work. `grow` and `sector::write` are the only functions that change a buffer: growth with zeros,
 // and one sector a call.
 // Its modules: `store`, bytes into a buffer; `sector`, the write of one sector.
-pub mod sector;
+mod sector;
 mod store;
 
 use extent::Extent;

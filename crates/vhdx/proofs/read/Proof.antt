@@ -1,13 +1,11 @@
 -- `vhdx::read` meets its contract: what the tables say of the first bytes.
 -- Assumes nothing.
-use mathlib.Core.Path.{sym, ap, subst, _∙_}
+use mathlib.Core.Path.{sym, ap, subst}
 use Prim.Native.Nat.{ℕ, _≤_}
-use native.Mathlib.Omega.{arith}
 use lib.Seq.{length-take-le}
 use Rattle.extent.specs.Extent.{MiB}
 use Rattle.vhdx_tables.specs.declared.Reading.{Reading}
 use Rattle.vhdx.specs.Attach.{told}
-use borrow.Author.Needs.{needs}
 use Rattle.vhdx.proofs.read.Statement.{statement}
 use Rattle.vhdx.proofs.read.Tie as tie
 

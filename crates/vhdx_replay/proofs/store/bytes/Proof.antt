@@ -9,8 +9,6 @@ use borrow.Author.Needs.{needs}
 use Rattle.vhdx_replay.proofs.Storing.{paste-more, paste-all}
 use Rattle.vhdx_replay.proofs.store.bytes.Statement.{statement}
 use Rattle.vhdx_replay.proofs.store.bytes.Tie as tie
-use Rattle.vhdx_replay.proofs.store.bytes.Reads as reads
-use Rattle.vhdx_replay.proofs.store.bytes.Lts as lts
 
 abbrev Inv-loop : tie.InvT-loop
 Inv-loop buffer₀ offset given k₀ buffer k = (k ≤ length given) × (length buffer ≡ length buffer₀) × (buffer ≡ paste buffer₀ offset given k)

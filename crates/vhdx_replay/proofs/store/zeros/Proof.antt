@@ -9,8 +9,6 @@ use borrow.Author.Needs.{needs}
 use Rattle.vhdx_replay.proofs.Storing.{paste-more, paste-all}
 use Rattle.vhdx_replay.proofs.store.zeros.Statement.{statement}
 use Rattle.vhdx_replay.proofs.store.zeros.Tie as tie
-use Rattle.vhdx_replay.proofs.store.zeros.Reads as reads
-use Rattle.vhdx_replay.proofs.store.zeros.Lts as lts
 
 abbrev Inv-loop : tie.InvT-loop
 Inv-loop buffer₀ from to n k₀ buffer k = (k ≤ n) × (length buffer ≡ length buffer₀) × (buffer ≡ paste buffer₀ from (replicate n 0) k)
