@@ -8,8 +8,8 @@
 #include <stdio.h>
 #include <stdlib.h>
 
-/* What a pending log may grow the image by. */
-#define ROOM ((size_t)64 << 20)
+/* How much a pending log may grow the image by. */
+#define GROWTH ((size_t)64 << 20)
 
 int main(int argc, char **argv)
 {
@@ -19,7 +19,7 @@ int main(int argc, char **argv)
     }
     FILE *file = fopen(argv[1], "rb");
     long size = file && !fseek(file, 0, SEEK_END) ? ftell(file) : -1;
-    size_t capacity = (size_t)size + ROOM;
+    size_t capacity = (size_t)size + GROWTH;
     uint8_t *buffer = size < 0 ? NULL : calloc(capacity, 1);
     if (!buffer || fseek(file, 0, SEEK_SET) || fread(buffer, 1, (size_t)size, file) != (size_t)size) {
         fprintf(stderr, "cannot read %s into memory\n", argv[1]);

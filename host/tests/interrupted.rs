@@ -1,4 +1,4 @@
-//! Interrupted attaches and steps: after any list of calls, each run to its end or cut, one more attach gives what an attach of
+//! Interrupted attaches and steps: after any list of calls, each run to its end or interrupted, one more attach gives what an attach of
 //! the original gives. A torn write leaves random bytes in its sector, interrupted growth any length between the given and the
 //! final one with garbage behind it. What the log names is known from the descriptors that the test laid into it.
 use shrunvaki_host::image::{Entry, Image, GUID, MIB, SECTOR};
@@ -99,7 +99,7 @@ fn cases() -> Vec<Case> {
     ]
 }
 
-/// What calls came to: attaches, steps done, refusals 21 and 22, cut growths, torn writes.
+/// What calls came to: attaches, steps done, refusals 21 and 22, interrupted growths, torn writes.
 type Reached = [u64; 6];
 
 /// A file between calls: the library's buffer, and beside it the one that document 01 says it is.
@@ -167,37 +167,37 @@ impl<'a> File<'a> {
         self.check("step");
     }
 
-    /// A step that is cut. One that is refused changes nothing.
-    fn cut_step(&mut self, random: &mut Random, k: u64) {
+    /// A step that is interrupted. One that is refused changes nothing.
+    fn interrupt_step(&mut self, random: &mut Random, k: u64) {
         let answer = self.replay().answer(self.length, k);
         if k == 0 {
             let more = answer.length - self.length;
             let length = self.length + random.below(more + 1);
-            self.cut_growth(random, length);
+            self.interrupt_growth(random, length);
         } else if answer.refusal == 0 {
             self.tear(random, k);
         }
     }
 
-    /// Growth that is cut at a length. What is past it may hold anything.
-    fn cut_growth(&mut self, random: &mut Random, length: u64) {
+    /// Growth that is interrupted at a length. What is past it may hold anything.
+    fn interrupt_growth(&mut self, random: &mut Random, length: u64) {
         let (from, to) = (self.length as usize, length as usize);
         self.expected[from..to].fill(0);
         random.fill(&mut self.expected[to..]);
         self.buffer[from..].copy_from_slice(&self.expected[from..]);
         self.length = length;
         self.reached[4] += 1;
-        self.check("cut growth");
+        self.check("interrupted growth");
     }
 
     /// A torn write of sector k: random bytes, the new bytes up to some place, or these the other way round.
     fn tear(&mut self, random: &mut Random, k: u64) {
         let (at, bytes) = &self.replay().sectors[k as usize - 1];
         let sector = &mut self.expected[*at..at + SECTOR];
-        let cut = random.below(SECTOR as u64) as usize;
+        let stop = random.below(SECTOR as u64) as usize;
         match random.below(4) {
-            0 => sector[..cut].copy_from_slice(&bytes[..cut]),
-            1 => sector[cut..].copy_from_slice(&bytes[cut..]),
+            0 => sector[..stop].copy_from_slice(&bytes[..stop]),
+            1 => sector[stop..].copy_from_slice(&bytes[stop..]),
             _ => random.fill(sector),
         }
         self.buffer[*at..at + SECTOR].copy_from_slice(sector);
@@ -205,15 +205,15 @@ impl<'a> File<'a> {
         self.check("torn write");
     }
 
-    /// An attach that is cut: its first steps are done, and the next is cut or not begun.
-    fn cut_attach(&mut self, random: &mut Random) {
+    /// An attach that is interrupted: its first steps are done, and the next is torn or not begun.
+    fn interrupt_attach(&mut self, random: &mut Random) {
         let steps = self.replay().count() + 1;
         let done = random.below(steps + 1);
         for k in 0..done {
             self.step(k);
         }
         if done < steps && !random.one_in(4) {
-            self.cut_step(random, done);
+            self.interrupt_step(random, done);
         }
     }
 
@@ -229,7 +229,7 @@ impl<'a> File<'a> {
     }
 }
 
-// ---- one cut
+// ---- one interruption
 
 #[test]
 fn a_torn_write_in_each_step_of_an_attach() {
@@ -254,14 +254,14 @@ fn a_torn_write_in_each_step_alone() {
         let mut file = File::new(case);
         for k in 0..=case.answer.count + 1 {
             file.reset();
-            file.cut_step(&mut random, k);
+            file.interrupt_step(&mut random, k);
             file.finish();
         }
     }
 }
 
 #[test]
-fn growth_cut_anywhere() {
+fn growth_interrupted_anywhere() {
     let mut random = Random::new(13);
     for case in &cases() {
         let (old, new) = (case.pending.image.length, case.answer.length);
@@ -275,7 +275,7 @@ fn growth_cut_anywhere() {
         let mut file = File::new(case);
         for length in lengths {
             file.reset();
-            file.cut_growth(&mut random, length);
+            file.interrupt_growth(&mut random, length);
             file.finish();
         }
     }
@@ -311,9 +311,9 @@ fn call(random: &mut Random, file: &mut File) {
     let k = number(random, file.case.answer.count);
     match random.below(8) {
         0 => file.attach(),
-        1 | 2 => file.cut_attach(random),
+        1 | 2 => file.interrupt_attach(random),
         3..=5 => file.step(k),
-        _ => file.cut_step(random, k),
+        _ => file.interrupt_step(random, k),
     }
 }
 
@@ -339,6 +339,6 @@ fn random_lists_of_calls() {
             *sum += n;
         }
     }
-    println!("attaches, steps, refused 21 and 22, cut growths, torn writes: {reached:?}");
+    println!("attaches, steps, refused 21 and 22, interrupted growths, torn writes: {reached:?}");
     assert!(reached.iter().all(|&n| n >= 100), "{reached:?}");
 }

@@ -1,14 +1,15 @@
 -- Answers in arrays, as the exported functions give them. Every slot that the interface names is written.
 -- Assumes nothing.
 use mathlib.Core.List.{List, [], _∷_, _++_}
+use mathlib.Core.Path.{_≡_}
 use Prim.Native.Nat.{ℕ}
-use lib.ListN.{replicate}
+use lib.ListN.{length, replicate}
 use Rattle.decision.specs.Refusal.{Outcome}
 use Rattle.extent.specs.declared.Extent.{Extent}
 use Rattle.vhdx_map.specs.Lookup.{Location, figures}
 use Rattle.vhdx.specs.declared.Attached.{Attached}
 use Rattle.vhdx.specs.declared.Stepped.{Stepped}
-use Rattle.vhdx_slots.specs.Slots.{inSlots, numbers}
+use Rattle.vhdx_slots.specs.Slots.{inSlots, numbers, factsFrom}
 
 -- slots 16 to 31 are zero
 unfoldable pub restCleared : List ℕ → List ℕ
@@ -17,6 +18,10 @@ restCleared answer = inSlots 16 (replicate 16 0) answer
 -- all 32 slots: refusal, length, count, the facts, zeros
 unfoldable pub attachedIn : Attached → List ℕ → List ℕ
 attachedIn a answer = inSlots 0 (a .refusal ∷ a .length ∷ a .count ∷ (numbers (a .facts) ++ replicate 16 0)) answer
+
+-- The array that lookup and parent key take is the one that attach wrote: it holds the facts that attach answered. Proved in proofs/Slots.antt
+abbrev pub HoldsTheFacts : Type 0
+HoldsTheFacts = (a : Attached) (answer : List ℕ) → length answer ≡ 32 → factsFrom (attachedIn a answer) ≡ a .facts
 
 -- both slots: refusal, length
 abbrev pub steppedIn : Stepped → List ℕ → List ℕ

@@ -26,7 +26,7 @@ use Rattle.vhdx.specs.declared.Attached.{Attached}
 use Rattle.vhdx.specs.Attach.{imageOf, afterAttach, read, told, answerBy, attachAnswer}
 use Rattle.vhdx.specs.Step.{afterStep}
 use Rattle.vhdx.specs.Refusals.{refusalOfPlan}
-use Rattle.vhdx.specs.CrashSafety.{sectorsOf, Restarts, CrashSafe, RunToTheEnd}
+use Rattle.vhdx.specs.CrashSafety.{PlannedExactlyThen, sectorsOf, Restarts, CrashSafe, RunToTheEnd}
 use Rattle.vhdx.proofs.Refusals.{by-the-table}
 
 applies : (p : Plan) → refusalOfPlan p ≡ none → (m : ℕ) × (ss : List Sector) × (p ≡ apply m ss)
@@ -87,9 +87,12 @@ module _ (o f : File) (m : ℕ) (ss : List Sector) (e : planOf o ≡ apply m ss)
             (λ i from to. untouched (reads o h k e) kept i (inr (from, to))));
       }
 
+pub planned-exactly-then : PlannedExactlyThen
+planned-exactly-then f = (λ x. sym (by-the-table f) ∙ ap refusalOfPlan (x .2), λ a. applies (planOf f) (by-the-table f ∙ a))
+
 pub crash-safe : CrashSafe
 crash-safe o f a cs =
-    let p = applies (planOf o) (by-the-table o ∙ a) in
+    let p = planned-exactly-then o .1 a in
     let h = header-of (o .buffer) (o .size) (p .2) in
     restarts o f (p .0) (p .1) (p .2) (h .0) (h .1) cs
 

@@ -8,6 +8,7 @@
 -- (`sector::write`).
 -- Assumes nothing.
 use mathlib.Core.List.{List, []}
+use mathlib.Core.Logic.{_↔_}
 use mathlib.Core.Option.{none}
 use mathlib.Core.Path.{_≡_}
 use Prim.Native.Nat.{ℕ, _≤_, _<_}
@@ -25,6 +26,10 @@ use Rattle.vhdx.specs.Refusals.{firstRow}
 -- "A log can be applied where, by the table above, none of 1 to 8 applies to an attach of the file as it came"
 abbrev pub Applicable : File → Type 0
 Applicable o = firstRow o ≡ none
+
+-- just then the plan is work to do. Proved in proofs/CrashSafety.antt
+abbrev pub PlannedExactlyThen : Type 0
+PlannedExactlyThen = (f : File) → ((m : ℕ) × (ss : List Sector) × (planOf f ≡ apply m ss)) ↔ Applicable f
 
 -- "the applied sequence is that file's active one": the sectors that it names
 abbrev pub sectorsOf : Plan → List Sector
