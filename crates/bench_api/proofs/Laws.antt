@@ -5,7 +5,7 @@ use mathlib.Core.List.{List}
 use mathlib.Core.Option.{Option, none}
 use Prim.Native.Nat.{ℕ}
 use lib.ListN.{length, set, getElem?}
-use Rattle.vhdx_log.specs.Work.{Plan, Sector, count, sectors}
+use Rattle.vhdx_log.specs.Work.{Plan, Sector, sectorsPlanned, count, sectors}
 use Rattle.vhdx_log.specs.Cursor.{descriptorsLeft}
 use Rattle.vhdx_log.specs.Walk.{sectorsLeft, nextOf, walkFrom, Ready}
 use Rattle.vhdx_log.specs.Answers.{planIn, countOf, ReadyIn}
@@ -19,7 +19,7 @@ use Rattle.vhdx_log.specs.declared.walk.SectorWrite.{SectorWrite}
 use Rattle.vhdx_log.specs.declared.walk.Next.{Next}
 use Rattle.vhdx_log.specs.declared.walk.Next.the-variants.{Sector as Here, End}
 use Rattle.vhdx_log.proofs.Sectors.{left-from}
-use Rattle.bench_api.specs.Plans.{refusal, figuresIn, sectorsOf, sourceKind, sourceIn, Answered}
+use Rattle.bench_api.specs.Plans.{refusal, figuresIn, sourceKind, sourceIn, Answered}
 
 module _ (log : List ℕ) (p : Plan) (r : Answer) (same : planIn log r ≡ p) (counted : countOf r ≡ count p) (ready : ReadyIn log r) where
   pub refused-figures : {c : ℕ} (l : List ℕ) → r ≡ Refused c → (c ≡ refusal p) × (set (set l 0 0) 1 0 ≡ figuresIn p l)
@@ -33,16 +33,16 @@ module _ (log : List ℕ) (p : Plan) (r : Answer) (same : planIn log r ≡ p) (c
       let c : w .count ≡ length (sectors (descriptorsLeft log (w .cursor))) = sym (ap countOf e) ∙ counted ∙ ap count (sym q) in
       (ap refusal q, ap (λ (n : ℕ). set (set l 0 (w .length)) 1 n) c ∙ ap (λ (x : Plan). figuresIn x l) q)
 
-  pub refused-sectors : {c : ℕ} (k : ℕ) → r ≡ Refused c → none ≡ getElem? (sectorsOf p) k
-  refused-sectors k e = ap (λ (x : Plan). getElem? (sectorsOf x) k) (sym (ap (planIn log) e) ∙ same)
+  pub refused-sectors : {c : ℕ} (k : ℕ) → r ≡ Refused c → none ≡ getElem? (sectorsPlanned p) k
+  refused-sectors k e = ap (λ (x : Plan). getElem? (sectorsPlanned x) k) (sym (ap (planIn log) e) ∙ same)
 
   pub applied-ready : {w : Work} {v : Walk} → r ≡ Apply w → v ≡ walkFrom (w .cursor) → Ready log v
   applied-ready e q = subst (Ready log) (sym q) (subst (ReadyIn log) e ready)
 
-  pub applied-sectors : {w : Work} {v : Walk} {n : Option Sector} (k : ℕ) → r ≡ Apply w → v ≡ walkFrom (w .cursor) → n ≡ getElem? (sectorsLeft log v) k → n ≡ getElem? (sectorsOf p) k
+  pub applied-sectors : {w : Work} {v : Walk} {n : Option Sector} (k : ℕ) → r ≡ Apply w → v ≡ walkFrom (w .cursor) → n ≡ getElem? (sectorsLeft log v) k → n ≡ getElem? (sectorsPlanned p) k
   applied-sectors {w} k e q h =
       h ∙ ap (λ (x : Walk). getElem? (sectorsLeft log x) k) q ∙ ap (λ (l : List Sector). getElem? l k) (left-from log (w .cursor))
-      ∙ ap (λ (x : Plan). getElem? (sectorsOf x) k) (sym (ap (planIn log) e) ∙ same)
+      ∙ ap (λ (x : Plan). getElem? (sectorsPlanned x) k) (sym (ap (planIn log) e) ∙ same)
 
 -- ---- what is written of a sector
 

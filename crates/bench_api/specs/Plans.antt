@@ -1,7 +1,7 @@
 -- A plan in figures, and one of its sectors as the exported functions answer them. An answer is written into an array that the
 -- caller lends: what stands in it otherwise stays.
 -- Assumes nothing.
-use mathlib.Core.List.{List, []}
+use mathlib.Core.List.{List}
 use mathlib.Core.Option.{Option}
 use mathlib.Core.Path.{_≡_}
 use Prim.Native.Nat.{ℕ}
@@ -24,10 +24,6 @@ finalLength (apply n ss) = n
 -- the final length and the count; zeros where the plan is a refusal
 abbrev pub figuresIn : Plan → List ℕ → List ℕ
 figuresIn p answer = set (set answer 0 (finalLength p)) 1 (count p)
-
-abbrev pub sectorsOf : Plan → List Sector
-sectorsOf (refused c) = []
-sectorsOf (apply n ss) = ss
 
 -- a sector's kind, and what is written of it: its offset, and where the log holds its bytes
 abbrev pub sourceKind : Source → ℕ

@@ -9,9 +9,10 @@ use vhdx_log::walk::Next;
 ghost use mathlib.Core.Path.{_≡_};
 ghost use lib.ListN.{getElem?};
 ghost use Rattle.crc32c.specs.Crc.{crc};
+ghost use Rattle.vhdx_log.specs.Work.{sectorsPlanned};
 ghost use Rattle.vhdx_log.specs.Plan.{plan};
 ghost use Rattle.vhdx_log.specs.Answers.{logOf};
-ghost use Rattle.bench_api.specs.Plans.{refusal, figuresIn, sectorsOf, Answered};
+ghost use Rattle.bench_api.specs.Plans.{refusal, figuresIn, Answered};
 
 #[no_mangle]
 pub extern "C" fn shrunvaki_bench_crc32c(bytes: &[u8]) -> u32
@@ -49,7 +50,7 @@ pub extern "C" fn shrunvaki_bench_sector(
     k: u64,
     answer: &mut [u64; 3],
 ) -> u64
-    ensures { λ r. ⌜ Answered (logOf (now (buffer .entry)) length) (getElem? (sectorsOf (plan (now (buffer .entry)) length)) k) r (now (answer .entry)) (now (answer .exit)) ⌝ }
+    ensures { λ r. ⌜ Answered (logOf (now (buffer .entry)) length) (getElem? (sectorsPlanned (plan (now (buffer .entry)) length)) k) r (now (answer .entry)) (now (answer .exit)) ⌝ }
 {
     match vhdx_log::plan(buffer, length) {
         Answer::Refused(_) => 0,

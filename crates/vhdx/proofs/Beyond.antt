@@ -10,13 +10,13 @@ use Rattle.vhdx_replay.proofs.Reading.{header-of, reads}
 use Rattle.vhdx_replay.proofs.Restart.{Good, good, admitted-good, beyond}
 use Rattle.vhdx.specs.Attach.{afterAttach}
 use Rattle.vhdx.specs.Step.{afterStep}
-use Rattle.vhdx.specs.CrashSafety.{finalLength, NothingBeyond}
+use Rattle.vhdx.specs.CrashSafety.{lengthAfter, NothingBeyond}
 
 pub nothing-beyond : NothingBeyond
 unfolding afterAttach afterStep
 nothing-beyond f i = go (planOf f) refl
   where
-    go : (p : Plan) → planOf f ≡ p → finalLength p (f .size) ≤ i
+    go : (p : Plan) → planOf f ≡ p → lengthAfter p (f .size) ≤ i
         → (getD (runs (steps p) f .buffer) i 0 ≡ getD (f .buffer) i 0) × ((k : ℕ) → getD (runs (single p k (f .size)) f .buffer) i 0 ≡ getD (f .buffer) i 0)
     go (refused c) e h = (refl, λ k. refl)
     go (apply m ss) e h =

@@ -14,7 +14,7 @@ use Rattle.vhdx_header.specs.declared.Header.{Header}
 use Rattle.vhdx_header.specs.declared.Answer.the-variants.{Current}
 use Rattle.vhdx_header.specs.Current.{currentHeader}
 use Rattle.vhdx_header.proofs.Laws.{accepted}
-use Rattle.vhdx_log.specs.Work.{Sector, Plan, refused, apply}
+use Rattle.vhdx_log.specs.Work.{Sector, Plan, refused, apply, sectorsPlanned}
 use Rattle.vhdx_log.specs.Plan.{extentOf}
 use Rattle.vhdx_replay.specs.Steps.{File, Named, runs, steps, single}
 use Rattle.vhdx_replay.specs.Calls.{planOf, attach, step, Calls}
@@ -26,7 +26,7 @@ use Rattle.vhdx.specs.declared.Attached.{Attached}
 use Rattle.vhdx.specs.Attach.{imageOf, afterAttach, read, told, answerBy, attachAnswer}
 use Rattle.vhdx.specs.Step.{afterStep}
 use Rattle.vhdx.specs.Refusals.{refusalOfPlan}
-use Rattle.vhdx.specs.CrashSafety.{PlannedExactlyThen, sectorsOf, Restarts, CrashSafe, RunToTheEnd}
+use Rattle.vhdx.specs.CrashSafety.{PlannedExactlyThen, Restarts, CrashSafe, RunToTheEnd}
 use Rattle.vhdx.proofs.Refusals.{by-the-table}
 
 applies : (p : Plan) → refusalOfPlan p ≡ none → (m : ℕ) × (ss : List Sector) × (p ≡ apply m ss)
@@ -80,7 +80,7 @@ module _ (o f : File) (m : ℕ) (ss : List Sector) (e : planOf o ≡ apply m ss)
         same-refusal = ap (λ (x : Attached). x .refusal) same-answer;
         same-facts = ap (λ (x : Attached). x .facts) same-answer;
         no-shorter = kept .longer;
-        same-elsewhere = λ i l n. elsewhere (reads o h k e) kept i l (subst (λ (p : Plan). ¬ Named (sectorsOf p) i) e n);
+        same-elsewhere = λ i l n. elsewhere (reads o h k e) kept i l (subst (λ (p : Plan). ¬ Named (sectorsPlanned p) i) e n);
         first-kept = same-first (o .buffer) (f .buffer) (kept .capacity) (omega (arith, a .holds-first, a .fits)) (λ i l. untouched (reads o h k e) kept i (inl l));
         log-kept = subst (λ (x : Extent). part (f .buffer) x ≡ part (o .buffer) x) (sym here)
             (same-part (h .«log_offset») (h .«log_length») (o .buffer) (f .buffer) (kept .capacity) (omega (arith, a .inside, a .fits))

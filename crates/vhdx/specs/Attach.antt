@@ -13,6 +13,7 @@ use Rattle.vhdx_replay.specs.Calls.{planOf}
 use Rattle.vhdx_replay.specs.Planned.{logExtent}
 use Rattle.vhdx.specs.declared.Attached.{Attached}
 
+-- "the image is that many first bytes"
 abbrev pub imageOf : File → List ℕ
 imageOf f = take (f .size) (f .buffer)
 

@@ -7,7 +7,7 @@
 -- says: growth writes upward from the given length (`store::zeros`), and the write of a sector stores only inside it
 -- (`sector::write`).
 -- Assumes nothing.
-use mathlib.Core.List.{List, []}
+use mathlib.Core.List.{List}
 use mathlib.Core.Logic.{_↔_}
 use mathlib.Core.Option.{none}
 use mathlib.Core.Path.{_≡_}
@@ -15,7 +15,7 @@ use Prim.Native.Nat.{ℕ, _≤_, _<_}
 use lib.ListN.{length, take, getD}
 use Rattle.extent.specs.Extent.{part}
 use Rattle.vhdx_header.specs.Current.{firstMiB}
-use Rattle.vhdx_log.specs.Work.{Sector, Plan, refused, apply}
+use Rattle.vhdx_log.specs.Work.{Sector, Plan, refused, apply, sectorsPlanned}
 use Rattle.vhdx_replay.specs.Steps.{File, Named}
 use Rattle.vhdx_replay.specs.Calls.{planOf, Call, Calls}
 use Rattle.vhdx_replay.specs.Planned.{logExtent}
@@ -30,11 +30,6 @@ Applicable o = firstRow o ≡ none
 -- just then the plan is work to do. Proved in proofs/CrashSafety.antt
 abbrev pub PlannedExactlyThen : Type 0
 PlannedExactlyThen = (f : File) → ((m : ℕ) × (ss : List Sector) × (planOf f ≡ apply m ss)) ↔ Applicable f
-
--- "the applied sequence is that file's active one": the sectors that it names
-abbrev pub sectorsOf : Plan → List Sector
-sectorsOf (refused c) = []
-sectorsOf (apply m ss) = ss
 
 -- what holds of the file f that a list of calls left of the original o
 pub record Restarts (o f : File) : Type 0 where
@@ -51,9 +46,9 @@ pub record Restarts (o f : File) : Type 0 where
   pub same-refusal : attachAnswer f .refusal ≡ attachAnswer o .refusal
   pub same-facts : attachAnswer f .facts ≡ attachAnswer o .facts
   -- "At every point the file differs from the original only in sectors that the applied sequence names and in bytes past the old
-  -- end."
+  -- end.": of 01, "the applied sequence is that file's active one", the original's
   pub no-shorter : o .size ≤ f .size
-  pub same-elsewhere : (i : ℕ) → i < o .size → ¬ Named (sectorsOf (planOf o)) i → getD (f .buffer) i 0 ≡ getD (o .buffer) i 0
+  pub same-elsewhere : (i : ℕ) → i < o .size → ¬ Named (sectorsPlanned (planOf o)) i → getD (f .buffer) i 0 ≡ getD (o .buffer) i 0
   -- "The first MiB and the log are never touched."
   pub first-kept : firstMiB (f .buffer) ≡ firstMiB (o .buffer)
   pub log-kept : part (f .buffer) (logExtent (o .buffer) (o .size)) ≡ part (o .buffer) (logExtent (o .buffer) (o .size))
@@ -69,12 +64,12 @@ abbrev pub RunToTheEnd : Type 0
 RunToTheEnd = (f : File) → Call f (afterAttach f) × ((k : ℕ) → Call f (afterStep k f))
 
 -- the length that the log's work leads to, at 1 to 8 the given one
-abbrev pub finalLength : Plan → ℕ → ℕ
-finalLength (refused c) n = n
-finalLength (apply m ss) n = m
+abbrev pub lengthAfter : Plan → ℕ → ℕ
+lengthAfter (refused c) n = n
+lengthAfter (apply m ss) n = m
 
 -- "No call run to its end changes bytes past the final length."
 abbrev pub NothingBeyond : Type 0
 NothingBeyond =
-    (f : File) (i : ℕ) → finalLength (planOf f) (f .size) ≤ i
+    (f : File) (i : ℕ) → lengthAfter (planOf f) (f .size) ≤ i
     → (getD (afterAttach f .buffer) i 0 ≡ getD (f .buffer) i 0) × ((k : ℕ) → getD (afterStep k f .buffer) i 0 ≡ getD (f .buffer) i 0)

@@ -90,6 +90,11 @@ pub data Plan : Type 0 where
   refused : ℕ → Plan
   apply : ℕ → List Sector → Plan
 
+-- the sectors that a plan writes
+abbrev pub sectorsPlanned : Plan → List Sector
+sectorsPlanned (refused c) = []
+sectorsPlanned (apply n ss) = ss
+
 -- "The count equals the definition's steps after step 0."
 abbrev pub count : Plan → ℕ
 count (refused c) = 0

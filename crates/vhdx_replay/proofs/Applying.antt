@@ -26,11 +26,12 @@ use Rattle.vhdx_log.specs.Answers.{logOf}
 use Rattle.vhdx_log.proofs.Answering.{log-is}
 use Rattle.vhdx_log.proofs.Sectors.{left-from}
 use Rattle.vhdx_replay.specs.Buffer.{zeroed}
-use Rattle.vhdx_replay.specs.Steps.{File, EndBy, Step, write, run, runs, steps}
+use Rattle.vhdx_replay.specs.Steps.{File, Step, write, run, runs, steps}
 use Rattle.vhdx_replay.specs.Calls.{file}
 use Rattle.vhdx_replay.specs.Writes.{allWritten, Safe, Writable}
 use Rattle.vhdx_replay.specs.Planned.{extentBy, logExtent, Planned}
 use Rattle.vhdx_replay.proofs.Bytes.{zeroed-length, zeroed-low}
+use Rattle.vhdx_replay.proofs.Restart.{EndBy}
 use Rattle.vhdx_replay.proofs.Sectors.{Whole, neither}
 use Rattle.vhdx_replay.proofs.Reading.{Applied, applied, header-of, same-part}
 

@@ -1,4 +1,5 @@
 pub mod Bytes
+pub mod Every
 pub mod Storing
 pub mod Assembled
 pub mod DataBytes

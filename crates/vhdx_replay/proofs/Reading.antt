@@ -29,10 +29,10 @@ use Rattle.vhdx_log.specs.Plan.{entriesFrom, logBytes, extentOf, planSequence, 
 use Rattle.vhdx_log.proofs.Chains.{linked-readable}
 use Rattle.vhdx_log.proofs.Answering.{plan-refused, log-placed}
 use Rattle.vhdx_log.proofs.Again.{passed, plan-again}
-use Rattle.vhdx_replay.specs.Steps.{File, EndBy}
+use Rattle.vhdx_replay.specs.Steps.{File}
 use Rattle.vhdx_replay.specs.Calls.{planOf}
 use Rattle.vhdx_replay.proofs.Bytes.{part-long}
-use Rattle.vhdx_replay.proofs.Restart.{Reads}
+use Rattle.vhdx_replay.proofs.Restart.{EndBy, Reads}
 use Rattle.vhdx_replay.proofs.Sectors.{AllSized, entries-sized, Whole, all-whole, all-end, Kept, none-kept}
 
 -- ---- what a plan that applies says of its sectors

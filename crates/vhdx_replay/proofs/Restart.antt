@@ -12,14 +12,15 @@ use lib.Dec.{leb}
 use lib.Seq.{length-take-le, getD-take, ext-getD}
 use Rattle.decision.specs.Refusal.{refused, answered, check}
 use Rattle.vhdx_log.specs.Work.{Sector, apply}
-use Rattle.vhdx_replay.specs.Steps.{File, end, In, Named, EndBy, Step, grow, write, run, runs, Torn, Ran, stop, torn, next, steps, admitted, stepsOf}
+use Rattle.vhdx_replay.specs.Steps.{File, end, In, Named, Step, grow, write, run, runs, Torn, Ran, stop, torn, next, steps, admitted, stepsOf}
 use Rattle.vhdx_replay.specs.Calls.{planOf, Call, attach, step, Calls, then}
 use Rattle.vhdx_replay.specs.Calls
+use Rattle.vhdx_replay.proofs.Every.{All}
 use Rattle.vhdx_replay.proofs.Bytes.{lt-or-le, put-length, put-in, put-out, zeroed-length, zeroed-in, zeroed-low, zeroed-high}
 
-abbrev pub All : (Step → Type 0) → List Step → Type 0
-All P [] = Unit {0}
-All P (s ∷ w) = P s × All P w
+-- each of the sectors ends at m or before
+abbrev pub EndBy : ℕ → List Sector → Type 0
+EndBy m ss = All (λ (s : Sector). end s ≤ m) ss
 
 -- ---- what every call keeps
 
@@ -39,7 +40,7 @@ module _ (o : File) (m : ℕ) (ss : List Sector) (grows : o .size ≤ m) (fits :
   pub at-first : Inv o m ss o
   at-first = record { capacity = refl; longer = omega arith; within = grows; rest = λ i l n. sym (zeroed-low (o .buffer) (o .size) m grows fits i l) }
 
-  -- a step that is done is a case of a step that is cut
+  -- a step that is done is a case of a step that is torn
   pub done : (s : Step) {f : File} → Good m ss s → Inv o m ss f → Torn s f (run s f)
   done (grow k) {f} e h =
       let a : f .size ≤ k = omega (arith, h .within) in

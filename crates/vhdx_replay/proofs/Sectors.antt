@@ -21,8 +21,10 @@ use Rattle.vhdx_log.specs.Work.{Descriptor, writes, zeros, allDescriptors, Sect
 use Rattle.vhdx_log.specs.Plan.{sectorBytes, descriptorOf, descriptorsFrom, entriesFrom}
 use Rattle.vhdx_log.specs.Cursor.{Readable, AllReadable}
 use Rattle.vhdx_log.proofs.Parts.{data-rank, size-fits, descriptors-fit}
-use Rattle.vhdx_replay.specs.Steps.{In, Named, EndBy}
+use Rattle.vhdx_replay.specs.Steps.{end, In, Named}
 use Rattle.vhdx_replay.proofs.Bytes.{part-long}
+use Rattle.vhdx_replay.proofs.Every.{All, all-append}
+use Rattle.vhdx_replay.proofs.Restart.{EndBy}
 
 -- ---- 4,096 bytes
 
@@ -42,8 +44,7 @@ Sized (writes offset bytes) = length bytes ≡ 4096
 Sized (zeros offset n) = Unit {0}
 
 abbrev pub AllSized : List Descriptor → Type 0
-AllSized [] = Unit {0}
-AllSized (d ∷ ds) = Sized d × AllSized ds
+AllSized ds = All Sized ds
 
 own-long : (r : List ℕ) (i : ℕ) → Readable r → i < descriptorCount r → length (descriptor r i) ≡ 32
 unfolding descriptor
@@ -68,31 +69,25 @@ unfolding descriptorsFrom
 from-sized r i zero e b = tt
 from-sized r i (suc m) e b = (descriptor-sized r i e (omega arith), from-sized r (i + 1) m e (omega arith))
 
-append-sized : (a b : List Descriptor) → AllSized a → AllSized b → AllSized (a ++ b)
-append-sized [] b p q = q
-append-sized (d ∷ a) b p q = (p .0, append-sized a b (p .1) q)
-
 pub entries-sized : (log : List ℕ) (s k : ℕ) → AllReadable log s (suc k) → AllSized (allDescriptors (entriesFrom log s k))
 unfolding entriesFrom AllReadable
 entries-sized log s zero h = from-sized (ring log s) 0 (descriptorCount (ring log s)) (h .0) (omega arith)
 entries-sized log s (suc k) h =
-    append-sized (descriptorsFrom (ring log s) 0 (descriptorCount (ring log s))) (allDescriptors (entriesFrom log (behind log s) k))
+    all-append Sized (descriptorsFrom (ring log s) 0 (descriptorCount (ring log s))) (allDescriptors (entriesFrom log (behind log s) k))
     (from-sized (ring log s) 0 (descriptorCount (ring log s)) (h .0) (omega arith)) (entries-sized log (behind log s) k (h .1))
 
 -- ---- where they end
 
+abbrev pub Long : Sector → Type 0
+Long s = length (s .bytes) ≡ 4096
+
 abbrev pub Whole : List Sector → Type 0
-Whole [] = Unit {0}
-Whole (s ∷ ss) = (length (s .bytes) ≡ 4096) × Whole ss
+Whole ss = All Long ss
 
 run-whole : (k offset : ℕ) (bytes : List ℕ) → length bytes ≡ 4096 → Whole (sectorsAt k offset bytes)
 unfolding sectorsAt
 run-whole zero offset bytes h = tt
 run-whole (suc k) offset bytes h = (h, run-whole k (offset + sectorSize) bytes h)
-
-append-whole : (a b : List Sector) → Whole a → Whole b → Whole (a ++ b)
-append-whole [] b p q = q
-append-whole (s ∷ a) b p q = (p .0, append-whole a b (p .1) q)
 
 zeros-long : length zeroSector ≡ 4096
 unfolding zeroSector
@@ -100,9 +95,9 @@ zeros-long = length-replicate {A = ℕ} sectorSize 0
 
 pub all-whole : (ds : List Descriptor) → AllSized ds → Whole (sectors ds)
 all-whole [] h = tt
-all-whole (writes offset bytes ∷ ds) h = append-whole (sectorsAt 1 offset bytes) (sectors ds) (run-whole 1 offset bytes (h .0)) (all-whole ds (h .1))
+all-whole (writes offset bytes ∷ ds) h = all-append Long (sectorsAt 1 offset bytes) (sectors ds) (run-whole 1 offset bytes (h .0)) (all-whole ds (h .1))
 all-whole (zeros offset n ∷ ds) h =
-    append-whole (sectorsAt (n / sectorSize) offset zeroSector) (sectors ds) (run-whole (n / sectorSize) offset zeroSector zeros-long) (all-whole ds (h .1))
+    all-append Long (sectorsAt (n / sectorSize) offset zeroSector) (sectors ds) (run-whole (n / sectorSize) offset zeroSector zeros-long) (all-whole ds (h .1))
 
 run-ends : (m k offset : ℕ) (bytes : List ℕ) → length bytes ≡ 4096 → (0 < k → offset + k * 4096 ≤ m) → EndBy m (sectorsAt k offset bytes)
 unfolding sectorsAt
@@ -110,10 +105,6 @@ run-ends m zero offset bytes h b = tt
 run-ends m (suc k) offset bytes h b =
     let all = b (omega arith) in
     (omega (arith, all), run-ends m k (offset + sectorSize) bytes h (λ c. omega (arith, all)))
-
-append-ends : (m : ℕ) (a b : List Sector) → EndBy m a → EndBy m b → EndBy m (a ++ b)
-append-ends m [] b p q = q
-append-ends m (s ∷ a) b p q = (p .0, append-ends m a b (p .1) q)
 
 zero-ends : (m offset n : ℕ) → cond (eqb n 0) 0 (offset + n) ≤ m → 0 < n / 4096 → offset + n / 4096 * 4096 ≤ m
 zero-ends m offset n h b = go (eqb n 0) refl h
@@ -125,10 +116,10 @@ zero-ends m offset n h b = go (eqb n 0) refl h
 pub all-end : (m : ℕ) (ds : List Descriptor) → AllSized ds → furthest ds ≤ m → EndBy m (sectors ds)
 all-end m [] h b = tt
 all-end m (writes offset bytes ∷ ds) h b =
-    append-ends m (sectorsAt 1 offset bytes) (sectors ds) (run-ends m 1 offset bytes (h .0) (λ c. omega (arith, b))) (all-end m ds (h .1) (omega (arith, b)))
+    all-append (λ (s : Sector). end s ≤ m) (sectorsAt 1 offset bytes) (sectors ds) (run-ends m 1 offset bytes (h .0) (λ c. omega (arith, b))) (all-end m ds (h .1) (omega (arith, b)))
 all-end m (zeros offset n ∷ ds) h b =
     let own : cond (eqb n 0) 0 (offset + n) ≤ m = omega (arith, b) in
-    append-ends m (sectorsAt (n / sectorSize) offset zeroSector) (sectors ds)
+    all-append (λ (s : Sector). end s ≤ m) (sectorsAt (n / sectorSize) offset zeroSector) (sectors ds)
     (run-ends m (n / sectorSize) offset zeroSector zeros-long (zero-ends m offset n own)) (all-end m ds (h .1) (omega (arith, b)))
 
 -- ---- where they do not lie

@@ -28,11 +28,6 @@ abbrev pub Named : List Sector → ℕ → Type 0
 Named [] i = ⊥
 Named (s ∷ ss) i = In i s ⊎ Named ss i
 
--- each of the sectors ends at m or before
-abbrev pub EndBy : ℕ → List Sector → Type 0
-EndBy m [] = Unit {0}
-EndBy m (s ∷ ss) = (end s ≤ m) × EndBy m ss
-
 -- a step: growth with zeros to a length, or the write of a sector
 pub data Step : Type 0 where
   grow : ℕ → Step

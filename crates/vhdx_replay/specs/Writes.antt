@@ -12,6 +12,7 @@ use Rattle.vhdx_log.specs.Walk.{sectorsLeft, Ready, Settled}
 use Rattle.vhdx_log.specs.declared.walk.Walk.{Walk}
 use Rattle.vhdx_replay.specs.Buffer.{put}
 
+-- the first of some sectors, if there is one: it ends inside the buffer; and the buffer with it written
 abbrev pub firstFits : List Sector → ℕ → Type 0
 firstFits [] capacity = Unit {0}
 firstFits (s ∷ ss) capacity = s .offset + 4096 ≤ capacity
