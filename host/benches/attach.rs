@@ -1,13 +1,13 @@
 //! `attach` of an image whose log of 64 MiB names 15,000 sectors, against the sum of one pass of the project's own CRC-32C over
 //! that log and one copy of so many sectors from a buffer to another, in turn. Prints the ratios; exits with status 1 where one
 //! is above the limit.
-use shrunvaki_host::api;
-use shrunvaki_host::image::{Entry, Image, GUID, MIB, SECTOR};
-use shrunvaki_host::measure::in_turn;
-use shrunvaki_host::pending::{assert_same, data, pattern, usual_facts, Pending};
-use shrunvaki_host::sample::{extent, M};
-use shrunvaki_host::tables::{Disk, BAT, METADATA};
-use shrunvaki_host::vhdx::{self, Facts};
+use shrunvaki_testkit::api;
+use shrunvaki_testkit::image::{Entry, Image, GUID, MIB, SECTOR};
+use shrunvaki_testkit::measure::in_turn;
+use shrunvaki_testkit::pending::{assert_same, data, pattern, usual_facts, Pending};
+use shrunvaki_testkit::sample::{extent, M};
+use shrunvaki_testkit::tables::{Disk, BAT, METADATA};
+use shrunvaki_testkit::vhdx::{self, Facts};
 use std::hint::black_box;
 
 const LOG: usize = 64 * MIB;

@@ -1,11 +1,11 @@
 //! A million lookups of random sectors on a disk of 100,000 blocks, the proved function and an ordinary Rust one in turn. Prints
 //! both rates and the ratio, medians over many turns; exits with status 1 where the proved one has less than 0.7 of the other's
 //! rate.
-use shrunvaki_host::measure::in_turn;
-use shrunvaki_host::model;
-use shrunvaki_host::random::Random;
-use shrunvaki_host::sample::{entry, small_disk, Sample, M};
-use shrunvaki_host::vhdx::{self, Facts};
+use shrunvaki_testkit::measure::in_turn;
+use shrunvaki_testkit::model;
+use shrunvaki_testkit::random::Random;
+use shrunvaki_testkit::sample::{entry, small_disk, Sample, M};
+use shrunvaki_testkit::vhdx::{self, Facts};
 use std::hint::black_box;
 use std::time::Duration;
 
@@ -53,7 +53,7 @@ fn compare(name: &str, sample: &Sample, sectors: &[u64]) -> f64 {
     for &sector in sectors {
         sample.lookup(sector);
     }
-    let (slots, facts) = (sample.facts.slots(), &sample.facts);
+    let (slots, facts) = (vhdx::slots_of(&sample.facts), &sample.facts);
     let (image, length) = (&sample.buffer, sample.length);
     let pieces: Vec<&[u64]> = sectors.chunks(PIECE).collect();
     let piece = |turn: usize| pieces[turn % pieces.len()];

@@ -1,8 +1,8 @@
 //! `plan` on logs of 64 MiB that an attacker would choose, against one pass of the project's own CRC-32C over 64 MiB in the
 //! same run. Prints the ratios; exits with status 1 where one is above the limit.
-use shrunvaki_host::api::{self, Plan};
-use shrunvaki_host::image::{seal, Descriptor, Entry, Image, GUID, MIB, SECTOR};
-use shrunvaki_host::measure::{crc_pass, finish, report, time};
+use shrunvaki_testkit::api::{self, Plan};
+use shrunvaki_testkit::image::{seal, Descriptor, Entry, Image, GUID, MIB, SECTOR};
+use shrunvaki_testkit::measure::{crc_pass, finish, report, time};
 use std::hint::black_box;
 
 const LOG: usize = 64 * MIB;

@@ -1,9 +1,9 @@
 //! The tables with 2,047 regions and 2,047 metadata items, all distinct, against one pass of the project's own CRC-32C over
 //! 64 MiB in the same run. Prints the ratios; exits with status 1 where one is above the limit.
-use shrunvaki_host::api;
-use shrunvaki_host::image::MIB;
-use shrunvaki_host::measure::{crc_pass, finish, report, time};
-use shrunvaki_host::tables::{Change, Disk, Item, Region};
+use shrunvaki_testkit::api;
+use shrunvaki_testkit::image::MIB;
+use shrunvaki_testkit::measure::{crc_pass, finish, report, time};
+use shrunvaki_testkit::tables::{Change, Disk, Item, Region};
 use std::hint::black_box;
 
 const ENTRIES: u32 = 2047;

@@ -1,16 +1,16 @@
 //! Attaching files with a pending log on real bytes: the log's effect, refusals 9 to 15 behind it, and what the answer is good
 //! for. Each expected answer is written from document 01, and every byte of the buffer is compared, past the image's end too.
-use shrunvaki_host::image::{seal, Descriptor, Entry, Image, GUID, HEADERS, MIB, SECTOR};
-use shrunvaki_host::pending::{
+use shrunvaki_testkit::image::{seal, Descriptor, Entry, Image, GUID, HEADERS, MIB, SECTOR};
+use shrunvaki_testkit::pending::{
     assert_same, bat_sector, data, pattern, r1, r1_with, r_entry, rich, sample_file, small_blocks,
     usual_facts, zero, Pending, Replay,
 };
-use shrunvaki_host::sample::{entry, extent, M, MINUS_TEN};
-use shrunvaki_host::tables::{
+use shrunvaki_testkit::sample::{entry, extent, M, MINUS_TEN};
+use shrunvaki_testkit::tables::{
     locator, stored, ucs2, Change, Disk, Item, Region, BAT, DISK_SIZE, FILE_PARAMETERS,
     IS_REQUIRED, LOCATOR, LOGICAL, METADATA, PHYSICAL,
 };
-use shrunvaki_host::vhdx::{self, Attachment, Facts, Lookup};
+use shrunvaki_testkit::vhdx::{self, Attachment, Facts, Lookup};
 
 /// An image of 4 MiB with the usual tables, in a buffer of 5.
 fn usual_image() -> Image {

@@ -1,14 +1,14 @@
 //! Interrupted attaches and steps: after any list of calls, each run to its end or interrupted, one more attach gives what an attach of
 //! the original gives. A torn write leaves random bytes in its sector, interrupted growth any length between the given and the
 //! final one with garbage behind it. What the log names is known from the descriptors that the test laid into it.
-use shrunvaki_host::image::{Entry, Image, GUID, MIB, SECTOR};
-use shrunvaki_host::pending::{
+use shrunvaki_testkit::image::{Entry, Image, GUID, MIB, SECTOR};
+use shrunvaki_testkit::pending::{
     assert_same, data, pattern, r1, r1_with, rich, small_blocks, usual_facts, zero, Pending, Replay,
 };
-use shrunvaki_host::random::Random;
-use shrunvaki_host::sample::M;
-use shrunvaki_host::tables::{Disk, LOGICAL};
-use shrunvaki_host::vhdx::{self, Attachment};
+use shrunvaki_testkit::random::Random;
+use shrunvaki_testkit::sample::M;
+use shrunvaki_testkit::tables::{Disk, LOGICAL};
+use shrunvaki_testkit::vhdx::{self, Attachment};
 
 /// A file whose log can be applied, and what attach answers for it.
 struct Case {

@@ -1,8 +1,8 @@
 //! The log's plan on real bytes: document 01's R1 to R6, every clause of a valid entry broken alone, awkward rings, and
 //! ranges at the limits. Each expected answer is written from document 01.
-use shrunvaki_host::api::{self, Plan, Sector};
-use shrunvaki_host::image::{seal, Descriptor, Entry, Image, GUID, MIB, SECTOR};
-use shrunvaki_host::pending::{pattern, zero};
+use shrunvaki_testkit::api::{self, Plan, Sector};
+use shrunvaki_testkit::image::{seal, Descriptor, Entry, Image, GUID, MIB, SECTOR};
+use shrunvaki_testkit::pending::{pattern, zero};
 
 const M: u64 = MIB as u64;
 

@@ -1,14 +1,14 @@
 //! Lookups on real bytes: document 01's numbers, the table of states, refusals 16 to 20 at their boundaries and in their order,
 //! bits and entries at the seams of chunks, and random disks. Each expected answer is written from document 01, and the model
 //! in `host/src/model.rs` has to give it too.
-use shrunvaki_host::api;
-use shrunvaki_host::random::Random;
-use shrunvaki_host::sample::{
+use shrunvaki_testkit::api;
+use shrunvaki_testkit::random::Random;
+use shrunvaki_testkit::sample::{
     entry, extent, forbidden, forbidden_locators, small_disk, Sample, M, MINUS_TEN, TIB,
 };
-use shrunvaki_host::tables::{locator, Disk};
-use shrunvaki_host::vhdx::Lookup::{File, Parent, Refused, Zero};
-use shrunvaki_host::vhdx::{self, Facts, Lookup, HAS_PARENT};
+use shrunvaki_testkit::tables::{locator, Disk};
+use shrunvaki_testkit::vhdx::Lookup::{File, Parent, Refused, Zero};
+use shrunvaki_testkit::vhdx::{self, Facts, Lookup, HAS_PARENT};
 
 /// An entry with an offset that is minus one MiB.
 const NEAR_TOP: u64 = 0xFFFF_FFFF_FFF0_0006;
@@ -126,7 +126,7 @@ fn states_with_a_parent() {
 #[test]
 fn any_number_but_zero_says_that_there_is_a_parent() {
     let mut sample = with_bitmap(entry(3, 6));
-    let mut slots = sample.facts.slots();
+    let mut slots = vhdx::slots_of(&sample.facts);
     for (state, without) in [(0, Zero), (7, Refused(18))] {
         sample.set_entry(0, entry(5, state));
         for n in [0, 1, 2, 256, 1 << 32, u64::MAX] {
@@ -142,7 +142,7 @@ fn any_number_but_zero_says_that_there_is_a_parent() {
 fn slots_of_no_fact_are_not_read() {
     let mut sample = with_bitmap(entry(3, 6));
     sample.set_bits(3, 0, 2);
-    let mut slots = sample.facts.slots();
+    let mut slots = vhdx::slots_of(&sample.facts);
     for n in [0, 1, 16, u64::MAX] {
         slots[..3].fill(n);
         slots[16..].fill(n);

@@ -1,9 +1,9 @@
 //! Values of a parent locator on real bytes: where each lies, and every reason for there being none. Each expected answer is
 //! written from document 01, and the model in `host/src/model.rs` has to give it too.
-use shrunvaki_host::api;
-use shrunvaki_host::sample::{extent, forbidden, Sample, M};
-use shrunvaki_host::tables::{locator, stored, ucs2, Disk, LOCATOR_TYPE};
-use shrunvaki_host::vhdx::{self, Extent};
+use shrunvaki_testkit::api;
+use shrunvaki_testkit::sample::{extent, forbidden, Sample, M};
+use shrunvaki_testkit::tables::{locator, stored, ucs2, Disk, LOCATOR_TYPE};
+use shrunvaki_testkit::vhdx::{self, Extent};
 
 const NONE: Extent = Extent {
     offset: 0,

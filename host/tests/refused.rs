@@ -1,12 +1,12 @@
 //! Refusals 1 to 8 of attach and step on real bytes, each from several causes: no byte of the buffer changes, the length is the
 //! given one, the count 0. Each expected answer is written from document 01.
-use shrunvaki_host::image::{seal, Entry, Image, GUID, HEADERS, MIB, SECTOR};
-use shrunvaki_host::pending::{
+use shrunvaki_testkit::image::{seal, Entry, Image, GUID, HEADERS, MIB, SECTOR};
+use shrunvaki_testkit::pending::{
     assert_same, data, pattern, r1_descriptor, r1_with, r_entry, usual_facts, zero, Pending,
 };
-use shrunvaki_host::sample::{M, TIB};
-use shrunvaki_host::tables::Disk;
-use shrunvaki_host::vhdx::{self, Attachment, Facts, Stepped};
+use shrunvaki_testkit::sample::{M, TIB};
+use shrunvaki_testkit::tables::Disk;
+use shrunvaki_testkit::vhdx::{self, Attachment, Facts, Stepped};
 
 /// Attaches an image that is refused, and asks for steps: as many as R1 has, more, and the greatest number.
 #[track_caller]

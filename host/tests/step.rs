@@ -1,13 +1,13 @@
 //! Single steps of a log's work on real bytes: growth alone, one sector alone, refusals 21 and 22, and all steps in order. Each
 //! expected answer is written from document 01, and every byte of the buffer is compared. Refusals 1 to 8 are in `refused.rs`.
-use shrunvaki_host::image::{Entry, Image, GUID, MIB, SECTOR};
-use shrunvaki_host::pending::{
+use shrunvaki_testkit::image::{Entry, Image, GUID, MIB, SECTOR};
+use shrunvaki_testkit::pending::{
     assert_same, data, pattern, r1, r1_with, r_entry, rich, small_blocks, usual_facts, zero,
     Pending, Replay,
 };
-use shrunvaki_host::sample::M;
-use shrunvaki_host::tables::Disk;
-use shrunvaki_host::vhdx::{self, Stepped};
+use shrunvaki_testkit::sample::M;
+use shrunvaki_testkit::tables::Disk;
+use shrunvaki_testkit::vhdx::{self, Stepped};
 
 fn done(length: u64) -> Stepped {
     Stepped { refusal: 0, length }

@@ -1,13 +1,13 @@
 //! The tables of an image on real bytes: every clause of every rule broken alone and at its boundary, two broken at once for the
 //! order of refusals. Each expected answer is written from document 01.
-use shrunvaki_host::api;
-use shrunvaki_host::image::MIB;
-use shrunvaki_host::pending::usual_facts;
-use shrunvaki_host::tables::{
+use shrunvaki_testkit::api;
+use shrunvaki_testkit::image::MIB;
+use shrunvaki_testkit::pending::usual_facts;
+use shrunvaki_testkit::tables::{
     locator, stored, Change, Disk, Item, Region, RegionTable, BAT, DISK_ID, DISK_SIZE,
     FILE_PARAMETERS, IS_REQUIRED, IS_USER, LOCATOR, LOCATOR_TYPE, LOGICAL, METADATA, PHYSICAL,
 };
-use shrunvaki_host::vhdx::{Extent, Facts};
+use shrunvaki_testkit::vhdx::{Extent, Facts};
 
 const M: u64 = MIB as u64;
 
@@ -253,24 +253,24 @@ fn regions_share_no_byte() {
 #[test]
 fn regions_share_no_byte_with_the_log() {
     let cases = [
-        (extent(M, M), 0),
-        (extent(2 * M, 0), 0),
-        (extent(M, M + 1), 10),
-        (extent(M, 3 * M), 10),
-        (extent(3 * M, M), 10),
-        (extent(4 * M - 1, 1), 10),
-        (extent(4 * M, M), 0),
-        (extent(0, 8 * M), 10),
+        ((M, M), 0),
+        ((2 * M, 0), 0),
+        ((M, M + 1), 10),
+        ((M, 3 * M), 10),
+        ((3 * M, M), 10),
+        ((4 * M - 1, 1), 10),
+        ((4 * M, M), 0),
+        ((0, 8 * M), 10),
         // an empty log shares none
-        (extent(3 * M, 0), 0),
-        (extent(2 * M + 1, 0), 0),
+        ((3 * M, 0), 0),
+        ((2 * M + 1, 0), 0),
     ];
     for (log, expected) in cases {
         assert_eq!(after(|d| d.log = log), expected, "{log:?}");
     }
     // an empty region in the log
     let got = after(|d| {
-        d.log = extent(4 * M, 4 * M);
+        d.log = (4 * M, 4 * M);
         d.length = 8 * MIB;
         d.table().regions.push(Region::new(unknown(1), 5 * M, 0));
     });
@@ -718,7 +718,7 @@ fn the_first_refusal_that_applies_is_the_answer() {
 #[test]
 fn a_short_image() {
     let image = Disk::default().bytes();
-    let log = extent(M, M);
+    let log = (M, M);
     assert_eq!(api::tables(&image[..MIB - 1], log), Err(1));
     assert_eq!(api::tables(&[], log), Err(1));
     assert_eq!(api::tables(&image[..MIB], log), Err(10));

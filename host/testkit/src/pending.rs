@@ -1,10 +1,11 @@
 //! Images with a pending log, and what replaying it does to their buffer: by the descriptors that a test laid into the log, not
 //! by the log's bytes.
-use crate::image::{Descriptor, Entry, Image, GUID, HEADERS, MIB, SECTOR};
+use crate::image::{Descriptor, Entry, Image, GUID, MIB, SECTOR};
 use crate::random::Random;
 use crate::sample::{entry, extent, M};
-use crate::tables::{Disk, DISK_SIZE, FILE_PARAMETERS};
+use crate::tables::Disk;
 use crate::vhdx::{self, Attachment, Facts, Stepped};
+use vhdx_builder::sample::{self, sector_with};
 
 pub fn zero(offset: u64, length: u64) -> Descriptor {
     Descriptor::Zero { offset, length }
@@ -229,17 +230,14 @@ pub fn usual_facts() -> Facts {
     }
 }
 
-/// A disk of 64 MiB in blocks of 1 MiB: a short file holds a block. And what its tables say.
+/// A disk of 64 MiB in blocks of 1 MiB, and what its tables say.
 pub fn small_blocks() -> (Disk, Facts) {
-    let mut disk = Disk::default();
-    disk.set(FILE_PARAMETERS, &[0, 0, 16, 0, 0, 0, 0, 0]);
-    disk.set(DISK_SIZE, &(64 * M).to_le_bytes());
     let facts = Facts {
         block_size: M,
         disk_size: 64 * M,
         ..usual_facts()
     };
-    (disk, facts)
+    (sample::small_blocks(), facts)
 }
 
 /// The bytes of a file's sector.
@@ -249,9 +247,7 @@ pub fn sector_of(file: &[u8], at: u64) -> Vec<u8> {
 
 /// A sector that begins with a BAT entry and holds zeros.
 pub fn bat_sector(value: u64) -> Vec<u8> {
-    let mut bytes = vec![0; SECTOR];
-    bytes[..8].copy_from_slice(&value.to_le_bytes());
-    bytes
+    sector_with(&value.to_le_bytes())
 }
 
 /// Three entries round the ring's end, on a file whose length is no whole sector. The log damages the tables and cures them,
@@ -286,19 +282,7 @@ pub fn rich(disk: &Disk) -> Pending {
     Pending::new(image, 253, &entries)
 }
 
-/// The file to try first. Its log puts block 0 of the disk at 4 MiB, behind the file's end: the BAT entry, zeros for the whole
-/// block, and a text in its first sector. Without the log every sector of the disk is zero.
+/// The file to try first, with what its log does.
 pub fn sample_file() -> Pending {
-    let (disk, _) = small_blocks();
-    let mut text = vec![0; SECTOR];
-    text[..26].copy_from_slice(b"The first bytes of block 0");
-    let mut log = Entry::new(1, 0)
-        .with(data(3 * M, bat_sector(entry(4, 6))))
-        .with(zero(4 * M, M))
-        .with(data(4 * M, text));
-    (log.flushed, log.last) = (4 * M, 5 * M);
-    let mut image = Image::new(6 * MIB, 4 * M, MIB, GUID);
-    // the second header is the current one, as after an odd number of updates
-    image.header(HEADERS[1], 2, GUID).tables(&disk);
-    Pending::new(image, 0, &[log])
+    Pending::with_replay(sample::pending(), Replay::of(&[sample::entry()]))
 }

@@ -1,5 +1,6 @@
 //! Safe calls of the functions that the crate `bench_api` exports: parts of the library that C programs do not see.
-use crate::vhdx::{Extent, Facts, Slots};
+use crate::vhdx::{facts_in, Slots};
+use vhdx_model::Facts;
 
 extern "C" {
     fn shrunvaki_bench_crc32c(bytes: *const u8, length: usize) -> u32;
@@ -92,7 +93,7 @@ pub fn sector(buffer: &[u8], length: u64, k: u64) -> Option<Sector> {
 
 /// The facts of an image whose log is here and applied, or the refusal's number. With a refusal come facts that are all zero,
 /// which this asserts, and that the slots of no fact are left.
-pub fn tables(image: &[u8], log: Extent) -> Result<Facts, u64> {
+pub fn tables(image: &[u8], log: (u64, u64)) -> Result<Facts, u64> {
     // not zero before, so that a zero is one that was written
     let mut answer: Slots = [u64::MAX; 32];
     // SAFETY: as above; the answer has the 32 numbers that may be written.
@@ -100,14 +101,14 @@ pub fn tables(image: &[u8], log: Extent) -> Result<Facts, u64> {
         shrunvaki_bench_tables(
             image.as_ptr(),
             image.len(),
-            log.offset,
-            log.length,
+            log.0,
+            log.1,
             answer.as_mut_ptr(),
         )
     };
     assert_eq!(answer[..3], [u64::MAX; 3], "slots 0 to 2");
     assert_eq!(answer[16..], [u64::MAX; 16], "slots 16 to 31");
-    let facts = Facts::from_slots(&answer);
+    let facts = facts_in(&answer);
     match refusal {
         0 => Ok(facts),
         _ => {

@@ -1,7 +1,6 @@
 //! The tables of a VHDX image, built from document 01 alone: both copies of the region table, the metadata table, its items.
 
 use crate::image::{put32, put64, seal, MIB};
-use crate::vhdx::Extent;
 
 const M: u64 = MIB as u64;
 
@@ -120,7 +119,8 @@ impl Item {
 #[derive(Clone)]
 pub struct Disk {
     pub length: usize,
-    pub log: Extent,
+    /// Offset and length.
+    pub log: (u64, u64),
     pub copies: [RegionTable; 2],
     /// Where the metadata region's bytes are written.
     pub metadata_at: u64,
@@ -149,10 +149,7 @@ impl Default for Disk {
         parameters.extend([0; 4]);
         Disk {
             length: 4 * MIB,
-            log: Extent {
-                offset: M,
-                length: M,
-            },
+            log: (M, M),
             copies: [table.clone(), table],
             metadata_at: 2 * M,
             signature: *b"metadata",

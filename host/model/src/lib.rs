@@ -1,0 +1,121 @@
+//! VHDX attach, step, lookup and parent key in ordinary Rust, written from document 01 alone: what tests hold the proved library
+//! to, and what benchmarks measure it against. It follows the document's definitions and shares nothing with the library. No
+//! input makes it panic.
+mod bytes;
+mod crc;
+mod extent;
+mod geometry;
+mod header;
+mod identifier;
+mod locator;
+mod log;
+mod lookup;
+mod metadata;
+mod regions;
+mod sequence;
+mod tables;
+mod work;
+
+#[cfg(test)]
+mod numbers;
+
+pub use crc::crc32c;
+pub use extent::Extent;
+pub use lookup::{lookup, parent_key};
+pub use work::{plan, Plan, Sector};
+
+/// What the tables say of a disk.
+#[derive(Debug, PartialEq, Eq, Clone, Copy, Default)]
+pub struct Facts {
+    pub logical_sector_size: u64,
+    pub physical_sector_size: u64,
+    pub block_size: u64,
+    pub disk_size: u64,
+    pub has_parent: bool,
+    /// As stored.
+    pub disk_id: [u8; 16],
+    pub bat: Extent,
+    pub metadata: Extent,
+    /// 0 and 0 without a parent.
+    pub locator: Extent,
+}
+
+/// What attach answers: the refusal's number or 0, the length after it, the count of sectors written, and the facts.
+#[derive(Debug, PartialEq, Eq, Clone, Copy, Default)]
+pub struct Attachment {
+    pub refusal: u64,
+    pub length: u64,
+    pub count: u64,
+    pub facts: Facts,
+}
+
+/// What a step answers: the refusal's number or 0, and the length after it.
+#[derive(Debug, PartialEq, Eq, Clone, Copy, Default)]
+pub struct Stepped {
+    pub refusal: u64,
+    pub length: u64,
+}
+
+/// Where a sector of the disk is: in the file at an offset, nowhere since it is zero, or in the parent.
+#[derive(Debug, PartialEq, Eq, Clone, Copy)]
+pub enum Lookup {
+    Refused(u64),
+    File(u64),
+    Zero,
+    Parent,
+}
+
+/// Applies the log of the image that is the first `length` bytes of the buffer, then reads its tables.
+pub fn attach(buffer: &mut [u8], length: u64) -> Attachment {
+    let plan = match plan(buffer, length) {
+        Ok(plan) => plan,
+        Err(refusal) => {
+            return Attachment {
+                refusal,
+                length,
+                ..Attachment::default()
+            }
+        }
+    };
+    plan.grow(buffer, length);
+    for sector in plan.sectors() {
+        plan.write(buffer, sector);
+    }
+    let image = &buffer[..plan.length as usize];
+    // "on a refusal every fact is zero"
+    let (refusal, facts) = match tables::read(image, plan.log) {
+        Ok(facts) => (0, facts),
+        Err(refusal) => (refusal, Facts::default()),
+    };
+    Attachment {
+        refusal,
+        length: plan.length,
+        count: plan.count,
+        facts,
+    }
+}
+
+/// Does step k of the log's work alone: step 0 grows the image, step k from 1 on writes sector k.
+pub fn step(buffer: &mut [u8], length: u64, k: u64) -> Stepped {
+    let refused = |refusal| Stepped { refusal, length };
+    let plan = match plan(buffer, length) {
+        Ok(plan) => plan,
+        Err(refusal) => return refused(refusal),
+    };
+    if k == 0 {
+        plan.grow(buffer, length);
+        return Stepped {
+            refusal: 0,
+            length: plan.length,
+        };
+    }
+    let Some(sector) = plan.sector(k) else {
+        return refused(21);
+    };
+    // the file may be shorter than step 0 would leave it
+    if !sector.extent().inside(length) {
+        return refused(22);
+    }
+    plan.write(buffer, sector);
+    refused(0)
+}

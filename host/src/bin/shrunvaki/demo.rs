@@ -1,0 +1,176 @@
+//! `demo`: a small disk with a pending log, a crash while the log is applied, and what becomes of it.
+use crate::json::Object;
+use crate::output::{Output, Status, Stop};
+use crate::source::Source;
+use crate::{apply, attach, lookup};
+use shrunvaki::{Image, Lookup};
+use std::fs;
+use std::path::{Path, PathBuf};
+use vhdx_builder::image::SECTOR;
+use vhdx_builder::sample;
+
+/// The crash comes when so many sectors are written, in the middle of the block of zeros, which the second is the first of.
+const WRITTEN: u64 = 100;
+
+/// A folder that is removed when the demonstration ends, however it ends.
+struct Folder(PathBuf);
+
+impl Folder {
+    fn new() -> Result<Folder, Stop> {
+        let path = std::env::temp_dir().join(format!("shrunvaki-demo-{}", std::process::id()));
+        fs::create_dir(&path).map_err(|error| failed(&path, error))?;
+        Ok(Folder(path))
+    }
+
+    /// A file in it with these bytes.
+    fn file(&self, name: &str, bytes: &[u8]) -> Result<Source, Stop> {
+        let path = self.0.join(name);
+        fs::write(&path, bytes).map_err(|error| failed(&path, error))?;
+        Ok(Source {
+            path: path.into_os_string(),
+            capacity: None,
+        })
+    }
+}
+
+impl Drop for Folder {
+    fn drop(&mut self) {
+        // what cannot be removed stays in the folder for temporary files
+        let _ = fs::remove_dir_all(&self.0);
+    }
+}
+
+fn failed(path: &Path, error: std::io::Error) -> Stop {
+    Stop::failed(format!("{}: {error}", path.display()))
+}
+
+pub fn run(out: &mut Output) -> Result<Status, Stop> {
+    let folder = Folder::new()?;
+    let image = sample::pending();
+    let bytes = &image.buffer[..image.length as usize];
+    let disk = folder.file("disk.vhdx", bytes)?;
+    let undisturbed = folder.file("undisturbed.vhdx", bytes)?;
+    if out.json {
+        return summary(&disk, &undisturbed, out);
+    }
+    tell(&disk, &undisturbed, out)
+}
+
+/// Step by step, each with the command that a user would write.
+fn tell(disk: &Source, undisturbed: &Source, out: &mut Output) -> Result<Status, Stop> {
+    let name = disk.name();
+    out.line("A disk of 64 MiB, whose program ended before its last changes were all written:")?;
+    out.line("they are in the file's log, and the file does not hold block 0 yet.")?;
+    heading(out, &format!("shrunvaki attach {name}"))?;
+    attach::run(disk, out)?;
+    out.line("\nThe log is applied in memory; the file is as it was. Now to the file itself, and a crash:")?;
+    heading(out, &format!("shrunvaki attach --apply {name}"))?;
+    crash(disk)?;
+    out.line(&format!(
+        "(killed after {WRITTEN} sectors, with garbage in the one being written)"
+    ))?;
+    out.line("\nOnce more, undisturbed:")?;
+    heading(out, &format!("shrunvaki attach --apply {name}"))?;
+    apply::run(disk, out)?;
+    apply_quietly(undisturbed)?;
+    let same = same_bytes(disk, undisturbed)?;
+    out.line(&format!(
+        "\nThe same to a copy that saw no crash. The two files are {}.",
+        if same {
+            "equal, byte for byte"
+        } else {
+            "DIFFERENT"
+        }
+    ))?;
+    heading(out, &format!("shrunvaki lookup {name} 0 2048"))?;
+    lookup::run(disk, &[0, 2048], out)?;
+    heading(
+        out,
+        &format!("shrunvaki cat {name} --sector 0 --count 1 | head -c 26"),
+    )?;
+    out.line(&String::from_utf8_lossy(&first_bytes(disk)?))?;
+    ended(same)
+}
+
+fn heading(out: &mut Output, command: &str) -> Result<(), Stop> {
+    out.line("")?;
+    out.line(&format!("$ {command}"))
+}
+
+/// The same in one object.
+fn summary(disk: &Source, undisturbed: &Source, out: &mut Output) -> Result<Status, Stop> {
+    let before = attachment(disk)?;
+    crash(disk)?;
+    apply_quietly(disk)?;
+    apply_quietly(undisturbed)?;
+    let same = same_bytes(disk, undisturbed)?;
+    let object = Object::new()
+        .object("attach", before)
+        .number("sectors_before_the_crash", WRITTEN)
+        .object("attach_again", attachment(disk)?)
+        .boolean("same_as_undisturbed", same)
+        .text("block_0", &String::from_utf8_lossy(&first_bytes(disk)?));
+    out.line(&object.finish())?;
+    ended(same)
+}
+
+fn ended(same: bool) -> Result<Status, Stop> {
+    match same {
+        true => Ok(Status::Answered),
+        false => Err(Stop::failed("the crash has left a difference")),
+    }
+}
+
+fn attachment(source: &Source) -> Result<Object, Stop> {
+    let opened = source.open()?;
+    let mut buffer = opened.buffer()?;
+    let attachment = opened.image(&mut buffer).attach();
+    Ok(attach::object(&opened, &attachment))
+}
+
+fn apply_quietly(source: &Source) -> Result<(), Stop> {
+    apply::perform(source, |_, _| Ok(())).map(|_| ())
+}
+
+/// What a process that is killed leaves: the file has grown, some of the log's sectors are written, and the next is torn.
+fn crash(source: &Source) -> Result<(), Stop> {
+    let refused = |refusal| Stop::failed(format!("a step was refused: {refusal}"));
+    let opened = source.open_exclusive()?;
+    let length = opened
+        .image(&mut opened.buffer()?)
+        .step(0)
+        .map_err(refused)?;
+    let mut buffer = opened.grown(length)?;
+    let mut image = Image::new(buffer.bytes(), length);
+    for k in 1..=WRITTEN {
+        image.step(k).map_err(refused)?;
+    }
+    let torn = sample::BLOCK as usize + (WRITTEN as usize - 1) * SECTOR;
+    buffer.bytes()[torn..torn + SECTOR / 2].fill(b'?');
+    Ok(())
+}
+
+fn same_bytes(one: &Source, other: &Source) -> Result<bool, Stop> {
+    let read = |source: &Source| {
+        let path = Path::new(&source.path);
+        fs::read(path).map_err(|error| failed(path, error))
+    };
+    Ok(read(one)? == read(other)?)
+}
+
+/// What block 0 begins with, by the offset that a lookup answers.
+fn first_bytes(source: &Source) -> Result<Vec<u8>, Stop> {
+    let opened = source.open()?;
+    let mut buffer = opened.buffer()?;
+    let mut image = opened.image(&mut buffer);
+    let at = image
+        .attach()
+        .facts
+        .and_then(|facts| image.lookup(&facts, 0));
+    match at {
+        Ok(Lookup::File(offset)) => {
+            Ok(image.bytes()[offset as usize..][..sample::TEXT.len()].to_vec())
+        }
+        other => Err(Stop::failed(format!("sector 0 of the disk is {other:?}"))),
+    }
+}

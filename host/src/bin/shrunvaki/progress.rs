@@ -1,0 +1,111 @@
+//! A line on standard error while work goes on for long: on a terminal written anew each second, else now and then.
+use std::io::{self, IsTerminal};
+use std::sync::mpsc::{self, RecvTimeoutError, Sender};
+use std::thread::{self, JoinHandle};
+use std::time::{Duration, Instant};
+
+/// Short work says nothing.
+const SILENT: Duration = Duration::from_secs(2);
+
+/// Where and how often the line is written.
+struct Line {
+    began: Instant,
+    next: Duration,
+    terminal: bool,
+    written: bool,
+}
+
+impl Line {
+    fn new() -> Line {
+        Line {
+            began: Instant::now(),
+            next: SILENT,
+            terminal: io::stderr().is_terminal(),
+            written: false,
+        }
+    }
+
+    /// Writes the line if it is time to. Errors of writing it are no reason to stop.
+    fn say(&mut self, text: impl FnOnce() -> String) {
+        let elapsed = self.began.elapsed();
+        if elapsed < self.next {
+            return;
+        }
+        let line = format!("{}, {} s", text(), elapsed.as_secs());
+        if self.terminal {
+            eprint!("\r{line}\x1b[K");
+        } else {
+            eprintln!("{line}");
+        }
+        self.written = true;
+        self.next = elapsed + Duration::from_secs(if self.terminal { 1 } else { 10 });
+    }
+}
+
+impl Drop for Line {
+    fn drop(&mut self) {
+        if self.written && self.terminal {
+            eprintln!();
+        }
+    }
+}
+
+/// How far work has come that is done piece by piece.
+pub struct Progress {
+    line: Line,
+    work: &'static str,
+    calls: u32,
+}
+
+impl Progress {
+    pub fn new(work: &'static str) -> Progress {
+        Progress {
+            line: Line::new(),
+            work,
+            calls: 0,
+        }
+    }
+
+    /// `done` of `all` is done. Looks at the clock now and then alone.
+    pub fn at(&mut self, done: u64, all: u64) {
+        self.calls = self.calls.wrapping_add(1);
+        if self.calls.is_multiple_of(4096) {
+            let percent = u128::from(done) * 100 / u128::from(all.max(1));
+            let work = self.work;
+            self.line.say(|| format!("{work}: {percent} %"));
+        }
+    }
+}
+
+/// How long one call has taken that says nothing itself. Ends when it is dropped.
+pub struct Elapsed {
+    stop: Option<Sender<()>>,
+    thread: Option<JoinHandle<()>>,
+}
+
+impl Elapsed {
+    pub fn new(work: &'static str) -> Elapsed {
+        let (stop, stopped) = mpsc::channel();
+        let thread = thread::spawn(move || {
+            let mut line = Line::new();
+            let tick = Duration::from_millis(500);
+            while stopped.recv_timeout(tick) == Err(RecvTimeoutError::Timeout) {
+                line.say(|| work.to_string());
+            }
+        });
+        Elapsed {
+            stop: Some(stop),
+            thread: Some(thread),
+        }
+    }
+}
+
+impl Drop for Elapsed {
+    fn drop(&mut self) {
+        drop(self.stop.take());
+        if let Some(thread) = self.thread.take() {
+            // it only prints; whether it ended well changes nothing
+            let _ = thread.join();
+        }
+    }
+}

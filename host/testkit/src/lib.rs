@@ -1,0 +1,11 @@
+//! What tests and benchmarks share: the proved functions with their answers taken apart, images with a pending log and the model
+//! of their replay, disks for lookups, random numbers, and measuring.
+pub mod api;
+pub mod measure;
+pub mod pending;
+pub mod random;
+pub mod sample;
+pub mod vhdx;
+
+pub use vhdx_builder::{image, tables};
+pub use vhdx_model as model;

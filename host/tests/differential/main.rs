@@ -1,0 +1,16 @@
+//! The proved library held to the model, call by call: the answer, and every byte of the buffer. The model is written from
+//! document 01 alone, in ordinary Rust.
+//!
+//! What is drawn at random is drawn from a seed, which a failing test names; `SEED=n` runs that one alone.
+mod boundaries;
+mod causes;
+mod damage;
+mod draw;
+mod fields;
+mod files;
+mod lists;
+mod pair;
+mod questions;
+mod rings;
+mod seeds;
+mod tally;

@@ -1,0 +1,90 @@
+//! A file in two buffers, one for the proved library and one for the model: every call is made on both, and both have to answer
+//! the same and leave the same bytes.
+use crate::tally::Tally;
+use shrunvaki_testkit::pending::assert_same;
+use shrunvaki_testkit::vhdx::{self, Attachment, Extent, Facts, Lookup, Stepped};
+use vhdx_model as model;
+
+#[derive(Default)]
+pub struct Pair {
+    proved: Vec<u8>,
+    model: Vec<u8>,
+    /// Of the buffer that calls are given, which may be shorter than the ones here: what is past it is compared too.
+    capacity: usize,
+    pub length: u64,
+    pub tally: Tally,
+}
+
+impl Pair {
+    /// Takes up another file.
+    pub fn load(&mut self, buffer: &[u8], capacity: usize, length: u64) {
+        for copy in [&mut self.proved, &mut self.model] {
+            copy.clear();
+            copy.extend_from_slice(buffer);
+        }
+        (self.capacity, self.length) = (capacity, length);
+    }
+
+    /// The buffer that calls are given.
+    pub fn buffer(&self) -> &[u8] {
+        &self.model[..self.capacity]
+    }
+
+    /// Writes bytes that no call wrote: what an interrupted one left.
+    pub fn put(&mut self, at: usize, bytes: &[u8]) {
+        for copy in [&mut self.proved, &mut self.model] {
+            copy[at..at + bytes.len()].copy_from_slice(bytes);
+        }
+    }
+
+    /// The plan of the log's work, unless attach refuses.
+    pub fn plan(&self) -> Option<model::Plan> {
+        model::plan(self.buffer(), self.length).ok()
+    }
+
+    #[track_caller]
+    pub fn attach(&mut self) -> Attachment {
+        let answer = vhdx::attach(&mut self.proved[..self.capacity], self.length);
+        let expected = model::attach(&mut self.model[..self.capacity], self.length);
+        assert_eq!(answer, expected, "attach at {}", self.length);
+        assert_same(&self.proved, &self.model, "after attach");
+        self.follow(answer.refusal, answer.length);
+        answer
+    }
+
+    #[track_caller]
+    pub fn step(&mut self, k: u64) -> Stepped {
+        let answer = vhdx::step(&mut self.proved[..self.capacity], self.length, k);
+        let expected = model::step(&mut self.model[..self.capacity], self.length, k);
+        assert_eq!(answer, expected, "step {k} at {}", self.length);
+        assert_same(&self.proved, &self.model, "after a step");
+        self.follow(answer.refusal, answer.length);
+        answer
+    }
+
+    /// The next call gets the length that this one left.
+    fn follow(&mut self, refusal: u64, length: u64) {
+        self.tally.add(refusal);
+        self.length = length;
+    }
+
+    #[track_caller]
+    pub fn lookup(&mut self, facts: &Facts, sector: u64) -> Lookup {
+        let answer = vhdx::lookup(facts, &self.proved[..self.capacity], self.length, sector);
+        let expected = model::lookup(facts, self.buffer(), self.length, sector);
+        assert_eq!(answer, expected, "sector {sector} of {facts:?}");
+        self.tally.add(match answer {
+            Lookup::Refused(number) => number,
+            _ => 0,
+        });
+        answer
+    }
+
+    #[track_caller]
+    pub fn parent_key(&mut self, facts: &Facts, key: &[u8]) -> Extent {
+        let answer = vhdx::parent_key(facts, &self.proved[..self.capacity], self.length, key);
+        let expected = model::parent_key(facts, self.buffer(), self.length, key);
+        assert_eq!(answer, expected, "key {key:?} of {facts:?}");
+        answer
+    }
+}
