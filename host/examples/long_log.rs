@@ -25,7 +25,7 @@ const FINAL_LENGTH: u64 = AREA + AREA_LENGTH + M;
 
 /// Log entries, each of which zeros the area so many times and then writes so many data sectors into it.
 const ROUNDS: u64 = 48;
-const PASSES: usize = 8;
+const PASSES: usize = 6;
 const DATA: u64 = 3;
 
 /// The log's entries, each with its first sector in the ring.

@@ -1,6 +1,7 @@
 //! What tests and benchmarks share: the proved functions with their answers taken apart, images with a pending log and the model
-//! of their replay, disks for lookups, random numbers, and measuring.
+//! of their replay, disks for lookups, random numbers, programs that tests run, and measuring.
 pub mod api;
+pub mod command;
 pub mod measure;
 pub mod pending;
 pub mod random;

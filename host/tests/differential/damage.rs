@@ -11,7 +11,7 @@ use shrunvaki_testkit::random::Random;
 use shrunvaki_testkit::sample::M;
 use shrunvaki_testkit::vhdx::Facts;
 
-const CASES: u64 = 8_000;
+const CASES: u64 = 6_000;
 
 /// A file that is being damaged: where its fields are, the log's first, and where its log's entries start.
 struct Case {
@@ -43,14 +43,22 @@ impl Case {
     }
 
     fn damage(&mut self, random: &mut Random) {
-        let at = match random.below(16) {
+        let field = match random.below(16) {
             0 => self.spoil_bytes(random),
             1 => self.copy_sector(random),
             2 => self.copy_field(random),
             _ => self.set_field(random),
         };
+        let both = random.one_in(2);
+        let twin = twin(field).filter(|_| both);
+        if let Some(twin) = twin {
+            let range = field.at..field.at + field.width;
+            self.image.buffer.copy_within(range, twin.at);
+        }
         if !random.one_in(8) {
-            reseal(&mut self.image, &self.starts, at);
+            for at in [Some(field), twin].into_iter().flatten().map(|f| f.at) {
+                reseal(&mut self.image, &self.starts, at);
+            }
         }
     }
 
@@ -63,32 +71,38 @@ impl Case {
         random.pick(group)
     }
 
-    fn set_field(&mut self, random: &mut Random) -> usize {
+    fn set_field(&mut self, random: &mut Random) -> Field {
         let field = self.field(random);
         let bytes = &mut self.image.buffer[field.at..field.at + field.width];
         if field.width == 16 {
             bytes[random.below(16) as usize] ^= 1 << random.below(8);
-            return field.at;
+            return field;
         }
         let mut old = [0; 8];
         old[..field.width].copy_from_slice(bytes);
         let value = interesting(random, u64::from_le_bytes(old));
         bytes.copy_from_slice(&value.to_le_bytes()[..field.width]);
-        field.at
+        field
     }
 
     /// Gives a field the value of another one of its kind.
-    fn copy_field(&mut self, random: &mut Random) -> usize {
+    fn copy_field(&mut self, random: &mut Random) -> Field {
         let group = self.group(random);
         let to = random.pick(group);
-        let same: Vec<Field> = group.iter().copied().filter(|f| f.width == to.width).collect();
+        let same: Vec<Field> = group
+            .iter()
+            .copied()
+            .filter(|f| f.width == to.width)
+            .collect();
         let from = random.pick(&same);
-        self.image.buffer.copy_within(from.at..from.at + from.width, to.at);
-        to.at
+        self.image
+            .buffer
+            .copy_within(from.at..from.at + from.width, to.at);
+        to
     }
 
     /// Copies a sector of the log to another place in it.
-    fn copy_sector(&mut self, random: &mut Random) -> usize {
+    fn copy_sector(&mut self, random: &mut Random) -> Field {
         let sectors = (self.image.log_length / SECTOR) as u64;
         let from = match self.starts.as_slice() {
             [] => 0,
@@ -98,21 +112,34 @@ impl Case {
         let log = self.image.log_mut();
         log.copy_within(from * SECTOR..(from + 1) * SECTOR, to * SECTOR);
         self.starts.push(to);
-        self.image.log_offset + to * SECTOR
+        Field {
+            at: self.image.log_offset + to * SECTOR,
+            width: SECTOR,
+        }
     }
 
     /// Puts random bytes anywhere in the file.
-    fn spoil_bytes(&mut self, random: &mut Random) -> usize {
-        let size = random.pick(&[1, 1, 8, 512]);
+    fn spoil_bytes(&mut self, random: &mut Random) -> Field {
+        let width = random.pick(&[1, 1, 8, 512]);
         // most of a file is zeros that mean nothing
         let at = match random.below(4) {
             0 => random.below(self.image.length - 512) as usize,
             1 => random.below(16) as usize,
             _ => self.field(random).at,
         };
-        random.fill(&mut self.image.buffer[at..at + size]);
-        at
+        random.fill(&mut self.image.buffer[at..at + width]);
+        Field { at, width }
     }
+}
+
+/// The same field in the other header or the other copy of the region table. Each copy is 64 KiB from its twin.
+fn twin(field: Field) -> Option<Field> {
+    let at = match field.at / 65536 {
+        1 | 3 => field.at + 65536,
+        2 | 4 => field.at - 65536,
+        _ => return None,
+    };
+    Some(Field { at, ..field })
 }
 
 /// A length that is not the file's: shorter, longer, or any number.
@@ -163,7 +190,7 @@ fn damaged_files() {
             0 => other_length(random, base.image.length, capacity),
             _ => base.image.length,
         };
-        pair.load(&case.image.buffer, capacity as usize, length);
+        pair.load_with(&case.image.buffer, capacity, length);
         exercise(random, &mut pair, &base.facts);
     });
     pair.tally.print("damaged files");

@@ -1,6 +1,6 @@
 //! Logs drawn at random for a file: most can be applied, and refusals 5 to 8 are not rare.
 use crate::files::Base;
-use shrunvaki_testkit::image::{Descriptor, Entry, Image, MIB, SECTOR};
+use shrunvaki_testkit::image::{Descriptor, Entry, Image, SECTOR};
 use shrunvaki_testkit::pending::{data, pattern, zero};
 use shrunvaki_testkit::random::Random;
 use shrunvaki_testkit::sample::{entry, M, MINUS_TEN, TIB};
@@ -84,7 +84,10 @@ impl Draw<'_> {
         match random.below(128) {
             // the first MiB, the log, or near them
             0 => zero(random.below(257) * 4096, 4096),
-            1 => zero(near(random, base.image.log_offset, base.image.log_length), 4096),
+            1 => zero(
+                near(random, base.image.log_offset, base.image.log_length),
+                4096,
+            ),
             2 => zero(random.below(512) * 4096, random.below(64) * M),
             3 => zero(random.number() << 12, random.number() << 12),
             4..=20 => zero(random.number() << 12, 0),
@@ -148,7 +151,7 @@ pub fn capacity(random: &mut Random, base: &Base) -> u64 {
     match random.below(8) {
         0 => length,
         1 => length + random.below(whole - length + 1),
-        2 => whole / MIB as u64 * M,
+        2 => whole / M * M,
         _ => whole,
     }
 }

@@ -88,6 +88,8 @@ pub fn of_file(base: &Base) -> Vec<Vec<Field>> {
         headers.collect(),
         regions.collect(),
         table.collect(),
+        // twice, since few fields hold most of what is judged
+        items.to_vec(),
         items.to_vec(),
         repeated(&[(0, 8)], bat, 8, 5000).collect(),
     ];
@@ -126,18 +128,20 @@ pub fn of_log(image: &Image, starts: &[usize]) -> Vec<Field> {
 /// A value that is worth trying where a number is: limits, neighbours, sizes and places of the format.
 pub fn interesting(random: &mut Random, old: u64) -> u64 {
     let near = [1, 8, 512, 4096, M, 2 * M];
-    match random.below(12) {
+    match random.below(13) {
         0 => old.wrapping_add(random.pick(&near)),
         1 => old.wrapping_sub(random.pick(&near)),
         2 => random.pick(&[0, 0, 1, 2, 3, 4, 7, 8, 12, 16, 20]),
         3 => random.pick(&[u64::MAX, MINUS_TEN, u64::MAX - 4095, u64::MAX - M + 1]),
         4 => random.below(9) * M,
-        5 => random.below(2048) * 4096,
+        // of any magnitude
+        5 => random.number() >> random.below(64) & !4095,
         6 => 1 << random.below(64),
         7 => random.pick(&[64 * M, 65 * M, 256 * M, 64 * TIB, 128 * TIB, 128 * TIB + 1]),
         8 => random.pick(&[19, 512, 4096, 65535, 65536, 131072, M - 1, 2047, 2048]),
         9 => old ^ 1 << random.below(64),
-        10 => random.pick(&[old * (old < 1 << 60) as u64 * 2, old / 2]),
+        10 => random.pick(&[old.wrapping_mul(2), old / 2]),
+        11 => random.below(66) * TIB,
         _ => random.number(),
     }
 }

@@ -1,5 +1,5 @@
 //! Files of many kinds, sound and without a pending log: what logs are drawn for and damage is done to.
-use shrunvaki_testkit::image::{Image, GUID, HEADERS, MIB};
+use shrunvaki_testkit::image::{Image, GUID, HEADERS};
 use shrunvaki_testkit::random::Random;
 use shrunvaki_testkit::sample::{entry, M, TIB};
 use shrunvaki_testkit::tables::{
@@ -34,10 +34,10 @@ impl Kind {
         }
     }
 
-    /// The file in a buffer with a MiB and some bytes to grow by.
+    /// The file in a buffer with some sectors to grow by.
     fn base(mut self, random: &mut Random) -> Base {
         self.disk.length = self.full as usize;
-        let capacity = self.full as usize + MIB + 10_000;
+        let capacity = self.full as usize + 100_000;
         let (at, log) = (self.log.0 as usize, self.log.1 as usize);
         let mut image = Image::with_log_at(at, capacity, self.full, log, [0; 16]);
         image.tables(&self.disk);
@@ -78,10 +78,9 @@ fn fill_bat(image: &mut Image, facts: &Facts, random: &mut Random) {
     }
 }
 
-fn sizes(disk: &mut Disk, block_mib: u8, disk_size: u64) {
+fn sizes(disk: &mut Disk, block_mib: u32, disk_size: u64) {
     let flags = disk.item(FILE_PARAMETERS).bytes[4];
-    let block = u32::from(block_mib) << 20;
-    let [a, b, c, d] = block.to_le_bytes();
+    let [a, b, c, d] = (block_mib << 20).to_le_bytes();
     disk.set(FILE_PARAMETERS, &[a, b, c, d, flags, 0, 0, 0]);
     disk.set(DISK_SIZE, &disk_size.to_le_bytes());
 }
@@ -125,17 +124,17 @@ fn large_sectors() -> Kind {
     sizes(&mut disk, 2, (9 << 30) + 4096);
     disk.set(LOGICAL, &4096u32.to_le_bytes());
     place(&mut disk, (M, M), (2 * M, M));
-    let mut kind = Kind::new(disk, 6 * M);
-    kind.log = (4 * M, M);
+    let mut kind = Kind::new(disk, 5 * M);
+    kind.log = (3 * M, M);
     kind
 }
 
-/// 64 TiB in blocks of 128 MiB: its BAT takes 5 MiB.
+/// 64 TiB in blocks of 256 MiB: its BAT takes 3 MiB.
 fn largest() -> Kind {
     let mut disk = with_parent();
-    sizes(&mut disk, 128, 64 * TIB);
-    place(&mut disk, (7 * M, M), (2 * M, 5 * M));
-    Kind::new(disk, 8 * M)
+    sizes(&mut disk, 256, 64 * TIB);
+    place(&mut disk, (5 * M, M), (2 * M, 3 * M));
+    Kind::new(disk, 6 * M)
 }
 
 /// Regions and items that nobody knows, the second copy of the region table alone, and a log of 2 MiB.
@@ -177,8 +176,8 @@ pub fn bases() -> Vec<Base> {
     let mut random = Random::new(7);
     let kinds = [
         Kind::new(Disk::default(), 4 * M),
-        Kind::new(small_blocks(false), 6 * M),
-        Kind::new(small_blocks(true), 6 * M),
+        Kind::new(small_blocks(false), 5 * M),
+        Kind::new(small_blocks(true), 5 * M),
         large_sectors(),
         largest(),
         crowded(),

@@ -1,6 +1,7 @@
 //! A file in two buffers, one for the proved library and one for the model: every call is made on both, and both have to answer
 //! the same and leave the same bytes.
 use crate::tally::Tally;
+use shrunvaki_testkit::image::Image;
 use shrunvaki_testkit::pending::assert_same;
 use shrunvaki_testkit::vhdx::{self, Attachment, Extent, Facts, Lookup, Stepped};
 use vhdx_model as model;
@@ -16,13 +17,18 @@ pub struct Pair {
 }
 
 impl Pair {
-    /// Takes up another file.
-    pub fn load(&mut self, buffer: &[u8], capacity: usize, length: u64) {
+    /// Takes up another file, in its whole buffer.
+    pub fn load(&mut self, image: &Image) {
+        self.load_with(&image.buffer, image.buffer.len() as u64, image.length);
+    }
+
+    /// Takes up another file, in the first `capacity` bytes of its buffer.
+    pub fn load_with(&mut self, buffer: &[u8], capacity: u64, length: u64) {
         for copy in [&mut self.proved, &mut self.model] {
             copy.clear();
             copy.extend_from_slice(buffer);
         }
-        (self.capacity, self.length) = (capacity, length);
+        (self.capacity, self.length) = (capacity as usize, length);
     }
 
     /// The buffer that calls are given.

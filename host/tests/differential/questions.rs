@@ -8,11 +8,11 @@ use shrunvaki_testkit::vhdx::Facts;
 
 /// Looks up sectors and keys with these facts and with facts that differ from them.
 pub fn ask(random: &mut Random, pair: &mut Pair, facts: &Facts) {
-    for _ in 0..24 {
+    for _ in 0..48 {
         pair.lookup(facts, sector(random, facts));
     }
     ask_keys(random, pair, facts);
-    for _ in 0..24 {
+    for _ in 0..16 {
         let other = change(random, facts);
         pair.lookup(&other, sector(random, facts));
         pair.lookup(&other, sector(random, &other));

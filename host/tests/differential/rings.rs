@@ -2,7 +2,7 @@
 //! What an entry writes tells its place, so that another sequence shows in the file.
 use crate::pair::Pair;
 use crate::seeds;
-use shrunvaki_testkit::image::{Entry, Image, GUID, MIB, SECTOR};
+use shrunvaki_testkit::image::{seal, Entry, Image, GUID, MIB, SECTOR};
 use shrunvaki_testkit::pending::{data, pattern, zero};
 use shrunvaki_testkit::random::Random;
 use shrunvaki_testkit::sample::M;
@@ -62,7 +62,7 @@ fn crowded_rings() {
     let all = seeds::each(1..=CASES, |random| {
         image.buffer.copy_from_slice(&empty.buffer);
         crowd(random, &mut image);
-        pair.load(&image.buffer, image.buffer.len(), image.length);
+        pair.load(&image);
         pair.attach();
     });
     pair.tally.print("crowded rings");
@@ -97,7 +97,7 @@ fn rings_that_sequences_fill() {
                     continue;
                 }
                 let image = full(start, number, entries);
-                pair.load(&image.buffer, image.buffer.len(), image.length);
+                pair.load(&image);
                 assert_eq!(pair.attach().count, count, "{start}, {number}");
             }
         }
@@ -110,9 +110,9 @@ fn rings_that_sequences_fill() {
         let mut image = Image::new(3 * MIB, 3 * M, MIB, GUID);
         let mut bytes = one.bytes();
         bytes[8..12].copy_from_slice(&(length as u32).to_le_bytes());
-        shrunvaki_testkit::image::seal(&mut bytes);
+        seal(&mut bytes);
         image.lay(77, &bytes);
-        pair.load(&image.buffer, image.buffer.len(), image.length);
+        pair.load(&image);
         let refusal = pair.attach().refusal;
         assert_eq!(refusal, if length == MIB { 9 } else { 5 });
     }

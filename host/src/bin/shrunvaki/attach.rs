@@ -48,7 +48,7 @@ pub fn lines(opened: &Opened, attachment: &Attachment) -> Vec<String> {
 
 pub fn object(opened: &Opened, attachment: &Attachment) -> Object {
     let object = Object::new()
-        .text("file", &opened.name)
+        .text("file", opened.name.as_str())
         .number("given_length", opened.length)
         .number("capacity", opened.capacity)
         .number("length", attachment.length)

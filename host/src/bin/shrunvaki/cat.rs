@@ -21,7 +21,7 @@ fn write_all(disk: &Disk, range: Range, out: &mut Output) -> Result<Status, Stop
     if out.json {
         let start = format!(
             "{{\"file\":{},\"sector\":{},\"sector_size\":{},\"hex\":\"",
-            quoted(disk.name),
+            quoted(disk.name.as_str()),
             range.first,
             sector_size
         );

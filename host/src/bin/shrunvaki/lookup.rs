@@ -20,7 +20,7 @@ fn answer(disk: &Disk, sectors: &[u64], out: &mut Output) -> Result<Status, Stop
         .collect();
     if out.json {
         let object = Object::new()
-            .text("file", disk.name)
+            .text("file", disk.name.as_str())
             .value("sectors", &list(answers.iter().map(object)));
         out.line(&object.finish())?;
     } else {

@@ -17,7 +17,7 @@ fn print(disk: &Disk, range: Range, out: &mut Output) -> Result<Status, Stop> {
     let watched = runs.inspect(|run| progress.at(run.first - range.first, all));
     let mut status = Status::Answered;
     if out.json {
-        out.bytes(format!("{{\"file\":{},\"runs\":[", quoted(disk.name)).as_bytes())?;
+        out.bytes(format!("{{\"file\":{},\"runs\":[", quoted(disk.name.as_str())).as_bytes())?;
     } else {
         out.line("first count where")?;
     }

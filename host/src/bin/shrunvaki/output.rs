@@ -1,5 +1,6 @@
 //! What the command prints, and how it ends.
 use crate::json::Object;
+use crate::source::Name;
 use shrunvaki::{Facts, Refusal};
 use std::io::{self, BufWriter, StdoutLock, Write};
 use std::process::ExitCode;
@@ -82,10 +83,10 @@ pub fn refusal_object(refusal: Refusal) -> Object {
 }
 
 /// Says that a file was refused, where a command needs its facts.
-pub fn refused(out: &mut Output, file: &str, refusal: Refusal) -> Result<Status, Stop> {
+pub fn refused(out: &mut Output, file: &Name, refusal: Refusal) -> Result<Status, Stop> {
     if out.json {
         let object = Object::new()
-            .text("file", file)
+            .text("file", file.as_str())
             .object("refusal", refusal_object(refusal));
         out.line(&object.finish())?;
     } else {

@@ -54,7 +54,7 @@ fn object(disk: &Disk, values: &[(&str, Option<String>)]) -> Object {
             None => object.null(key),
         });
     Object::new()
-        .text("file", disk.name)
+        .text("file", disk.name.as_str())
         .boolean("has_parent", disk.facts.has_parent)
         .object("values", values)
 }

@@ -3,6 +3,7 @@ use crate::mapping::{say_on_bus_error, Mapping, Writes};
 use crate::output::{printable, refused, Output, Status, Stop};
 use shrunvaki::{Facts, Image};
 use std::ffi::OsString;
+use std::fmt;
 use std::fs::{self, File, OpenOptions, TryLockError};
 use std::path::Path;
 
@@ -16,10 +17,24 @@ pub struct Source {
     pub capacity: Option<u64>,
 }
 
+/// A file's path: as it is in JSON, and with nothing that could command a terminal in messages.
+pub struct Name(String);
+
+impl Name {
+    pub fn as_str(&self) -> &str {
+        &self.0
+    }
+}
+
+impl fmt::Display for Name {
+    fn fmt(&self, out: &mut fmt::Formatter<'_>) -> fmt::Result {
+        out.write_str(&printable(&self.0))
+    }
+}
+
 impl Source {
-    /// The path as messages have it.
-    pub fn name(&self) -> String {
-        printable(&self.path.to_string_lossy())
+    pub fn name(&self) -> Name {
+        Name(self.path.to_string_lossy().into_owned())
     }
 
     /// Opens the file to be read, under a shared lock.
@@ -75,7 +90,7 @@ impl Source {
 }
 
 /// Programs that take such locks are kept from changing the file meanwhile; no lock keeps out the others.
-fn lock(file: &File, name: &str, writes: Writes) -> Result<(), Stop> {
+fn lock(file: &File, name: &Name, writes: Writes) -> Result<(), Stop> {
     let locked = match writes {
         Writes::Private => file.try_lock_shared(),
         Writes::Shared => file.try_lock(),
@@ -91,7 +106,7 @@ fn lock(file: &File, name: &str, writes: Writes) -> Result<(), Stop> {
     }
 }
 
-fn bus_error(name: &str, writes: Writes) -> String {
+fn bus_error(name: &Name, writes: Writes) -> String {
     let why = "became shorter while it was in use, or its disk is full or failing";
     match writes {
         Writes::Private => format!("shrunvaki: {name}: {why}\n"),
@@ -103,7 +118,7 @@ fn bus_error(name: &str, writes: Writes) -> String {
 
 /// The file's length is that under the lock.
 pub struct Opened {
-    pub name: String,
+    pub name: Name,
     pub file: File,
     pub length: u64,
     pub capacity: u64,
@@ -142,7 +157,7 @@ impl Opened {
 
 /// A file that was attached in memory.
 pub struct Disk<'a> {
-    pub name: &'a str,
+    pub name: &'a Name,
     pub image: Image<'a>,
     pub facts: Facts,
 }

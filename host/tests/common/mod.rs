@@ -1,0 +1,132 @@
+//! The command on VHDX files that qemu made: what `samples.rs` and `qemu.rs` share.
+use shrunvaki_testkit::command::{run, Folder, Ran};
+use std::ffi::OsStr;
+use std::fs;
+use std::path::Path;
+use std::process::{Command, Stdio};
+
+const SHRUNVAKI: &str = env!("CARGO_BIN_EXE_shrunvaki");
+
+/// The first MiB, where qemu's replay rewrites the headers, which ours leaves alone.
+const FIRST_MIB: &str = "--ignore-initial=1048576";
+
+/// The first MiB and the log, which qemu puts behind it; all files here have logs of 1 MiB.
+const UP_TO_THE_LOGS_END: &str = "--bytes=2097152";
+
+/// Runs the command on a file.
+pub fn shrunvaki(arguments: &[&str], file: &Path) -> Ran {
+    let mut all: Vec<&OsStr> = arguments.iter().map(OsStr::new).collect();
+    all.push(file.as_os_str());
+    run(SHRUNVAKI, &all)
+}
+
+/// What `attach --json` prints.
+pub struct Answer(String);
+
+impl Answer {
+    /// Asserts that the status goes with the answer.
+    #[track_caller]
+    pub fn of(file: &Path) -> Answer {
+        let ran = shrunvaki(&["attach", "--json"], file);
+        let answer = Answer(ran.text());
+        let refused = answer.refusal().is_some();
+        ran.with(i32::from(refused));
+        answer
+    }
+
+    /// The number of the refusal.
+    pub fn refusal(&self) -> Option<u64> {
+        (!self.0.contains("\"refusal\":null")).then(|| self.number("number"))
+    }
+
+    /// The first number under a name.
+    #[track_caller]
+    pub fn number(&self, name: &str) -> u64 {
+        number_in(&self.0, &format!("\"{name}\":"))
+    }
+
+    /// Without the file's name, and with a refusal's number alone in place of its number and words.
+    pub fn essence(&self) -> String {
+        let (_, rest) = self.0.split_once(",\"given_length\"").expect("a length");
+        let rest = format!("{{\"given_length\"{rest}");
+        match (self.refusal(), rest.split_once("\"refusal\":{")) {
+            (Some(number), Some((before, words))) => {
+                let (_, after) = words.split_once('}').expect("the end of the refusal");
+                format!("{before}\"refusal\":{number}{after}")
+            }
+            _ => rest,
+        }
+    }
+}
+
+/// The number behind some text.
+#[track_caller]
+pub fn number_in(text: &str, before: &str) -> u64 {
+    let (_, rest) = text
+        .split_once(before)
+        .unwrap_or_else(|| panic!("no {before} in {text}"));
+    let digits: String = rest
+        .chars()
+        .skip_while(|c| c.is_whitespace())
+        .take_while(char::is_ascii_digit)
+        .collect();
+    digits.parse().expect("a number")
+}
+
+/// That two files agree, as `cmp` compares them with these options: files need not fit into memory.
+#[track_caller]
+pub fn assert_same_files(options: &[&str], got: &Path, expected: &Path) {
+    let mut arguments: Vec<&OsStr> = options.iter().map(OsStr::new).collect();
+    arguments.extend([got.as_os_str(), expected.as_os_str()]);
+    let ran = run("cmp", &arguments);
+    assert_eq!(ran.status, Some(0), "{}{}", ran.text(), ran.errors);
+}
+
+/// That the sectors of a disk are what a raw file holds.
+#[track_caller]
+pub fn assert_contents(disk: &Path, raw: &Path) {
+    let mut cat = Command::new(SHRUNVAKI)
+        .arg("cat")
+        .arg(disk)
+        .stdout(Stdio::piped())
+        .spawn()
+        .expect("the command");
+    let compared = Command::new("cmp")
+        .arg("-")
+        .arg(raw)
+        .stdin(cat.stdout.take().expect("its output"))
+        .output()
+        .expect("cmp");
+    let status = cat.wait().expect("its end");
+    let difference = String::from_utf8_lossy(&compared.stdout).into_owned()
+        + &String::from_utf8_lossy(&compared.stderr);
+    assert!(compared.status.success(), "{}: {difference}", disk.display());
+    assert!(status.success(), "{}: {status}", disk.display());
+}
+
+/// Applies a file's log to a copy of it. Asserts that past the first MiB it is then qemu's file with the log applied, that the
+/// first MiB and the log are as they were, and that applying again changes nothing.
+#[track_caller]
+pub fn assert_applied(folder: &Folder, pending: &Path, by_qemu: &Path) {
+    let (once, twice) = (folder.file("applied"), folder.file("applied-twice"));
+    fs::copy(pending, &once).expect("a copy");
+    let said = shrunvaki(&["attach", "--apply"], &once).with(0).text();
+    assert!(said.starts_with("applying: "), "{said}");
+    assert_same_files(&[FIRST_MIB], &once, by_qemu);
+    assert_same_files(&[UP_TO_THE_LOGS_END], &once, pending);
+    fs::copy(&once, &twice).expect("a copy");
+    shrunvaki(&["attach", "--apply"], &twice).with(0);
+    assert_same_files(&[], &twice, &once);
+}
+
+/// That a file is refused by this number whatever is asked of it, and is not changed.
+#[track_caller]
+pub fn assert_refused(folder: &Folder, file: &Path, number: u64) {
+    let copy = folder.file("refused");
+    fs::copy(file, &copy).expect("a copy");
+    assert_eq!(Answer::of(&copy).refusal(), Some(number));
+    for arguments in [&["attach", "--apply"][..], &["map"], &["cat"]] {
+        shrunvaki(arguments, &copy).with(1);
+    }
+    assert_same_files(&[], &copy, file);
+}
