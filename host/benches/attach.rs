@@ -1,9 +1,10 @@
 //! `attach` of an image whose log of 64 MiB names 15,000 sectors, against the sum of one pass of the project's own CRC-32C over
-//! that log and one copy of so many sectors from a buffer to another, in turn. Prints the ratios; exits with status 1 where one
-//! is above the limit.
+//! that log and one copy of so many sectors from a buffer to another, in turn; and in turn with the plain model's. Prints the
+//! ratios; exits with status 1 where one to the sum is above the limit.
 use shrunvaki_testkit::api;
 use shrunvaki_testkit::image::{Entry, Image, GUID, MIB, SECTOR};
 use shrunvaki_testkit::measure::in_turn;
+use shrunvaki_testkit::model;
 use shrunvaki_testkit::pending::{assert_same, data, pattern, usual_facts, Pending};
 use shrunvaki_testkit::sample::{extent, M};
 use shrunvaki_testkit::tables::{Disk, BAT, METADATA};
@@ -70,14 +71,31 @@ fn compare(name: &str, pending: &Pending) -> f64 {
             assert_eq!(again, answer, "{name}");
         },
     );
-    assert_same(&buffer, &pending.applied().0, name);
     println!(
         "{name}: attach {:.1} ms, pass and copy {:.1} ms, ratio {:.2}",
         taken.other.as_secs_f64() * 1e3,
         taken.one.as_secs_f64() * 1e3,
         taken.ratio
     );
+    beside_the_model(pending, buffer);
     taken.ratio
+}
+
+/// The same in turn with the model. Both buffers hold the file with its log applied before and after.
+fn beside_the_model(pending: &Pending, mut buffer: Vec<u8>) {
+    let mut plain = buffer.clone();
+    in_turn(
+        TURNS,
+        |_| {
+            black_box(vhdx::attach(black_box(&mut buffer), pending.image.length));
+        },
+        |_| {
+            black_box(model::attach(black_box(&mut plain), pending.image.length));
+        },
+    )
+    .report("  beside the model");
+    assert_same(&buffer, &pending.applied().0, "proved");
+    assert_same(&plain, &buffer, "plain");
 }
 
 fn main() {

@@ -1,13 +1,15 @@
 //! `plan` on logs of 64 MiB that an attacker would choose, against one pass of the project's own CRC-32C over 64 MiB in the
-//! same run. Prints the ratios; exits with status 1 where one is above the limit.
+//! same run, and in turn with the plain model's. Prints the ratios; exits with status 1 where one is above the limit in passes.
 use shrunvaki_testkit::api::{self, Plan};
 use shrunvaki_testkit::image::{seal, Descriptor, Entry, Image, GUID, MIB, SECTOR};
-use shrunvaki_testkit::measure::{crc_pass, finish, report, time};
+use shrunvaki_testkit::measure::{crc_pass, finish, in_turn, report, time};
+use shrunvaki_testkit::model;
 use std::hint::black_box;
 
 const LOG: usize = 64 * MIB;
 const SECTORS: usize = LOG / SECTOR;
 const LIMIT: f64 = 4.0;
+const TURNS: usize = 5;
 
 /// Builds the image of a case.
 type Build = fn() -> Image;
@@ -74,6 +76,28 @@ fn greedy_headers() -> Image {
     image
 }
 
+/// The same in turn with the model, which judges every sector of the log once and keeps what it found in a list.
+fn beside_the_model(image: &Image, expected: Plan) {
+    let model = match model::plan(&image.buffer, image.length) {
+        Ok(plan) => Plan::Apply {
+            length: plan.length,
+            count: plan.count,
+        },
+        Err(number) => Plan::Refused(number),
+    };
+    assert_eq!(model, expected);
+    in_turn(
+        TURNS,
+        |_| {
+            black_box(api::plan(black_box(&image.buffer), image.length));
+        },
+        |_| {
+            black_box(model::plan(black_box(&image.buffer), image.length).is_ok());
+        },
+    )
+    .report("  beside the model");
+}
+
 fn main() {
     let pass = crc_pass();
     let length = (LOG + 3 * MIB) as u64;
@@ -106,6 +130,7 @@ fn main() {
         assert_eq!(api::plan(&image.buffer, image.length), expected, "{name}");
         let taken = time(|| api::plan(black_box(&image.buffer), image.length));
         most = most.max(report(name, taken, pass));
+        beside_the_model(&image, expected);
     }
     finish(most, LIMIT);
 }

@@ -10,35 +10,35 @@ pub struct Refusal(u8);
 const TEXTS: [(&str, &str); 22] = [
     (
         "the file is shorter than 1 MiB or longer than the capacity",
-        "Below 1 MiB it is no VHDX, or its copy was broken off: copy it again. Above the capacity: give more with --capacity.",
+        "Below 1 MiB it is no VHDX, or a copy that broke off: copy it again. Above the capacity: give more with --capacity.",
     ),
     (
         "the file does not begin \"vhdxfile\"",
-        "It is no VHDX. VHD, VDI, VMDK and qcow2 files have other beginnings: convert them (qemu-img convert -O vhdx).",
+        "It is no VHDX. Other formats (VHD, VDI, VMDK, qcow2) can be converted: qemu-img convert -O vhdx OLD NEW.",
     ),
     (
         "no header is current",
-        "Both headers are damaged, or both are valid with equal sequence numbers, as Disk2vhd writes them: convert the file (qemu-img convert -O vhdx), which reads such a file.",
+        "Both headers are damaged, or both are valid with one sequence number, as Disk2vhd writes them. qemu reads the latter: qemu-img convert -O vhdx OLD NEW.",
     ),
     (
         "a field of the current header breaks its rule",
-        "Version, log version, or the log's offset and length are wrong; a log that ends past the file means a copy that was broken off. Copy it again, or ask for another.",
+        "A log that ends past the file means a copy that broke off: copy it again. Otherwise ask what made the file.",
     ),
     (
         "the header names a log, but no log sequence is in it",
-        "The program that wrote the file was killed before its first log entry was whole. Ask its owner to open and close it where it was made, or to convert it (qemu-img convert -O vhdx): nothing older is missing.",
+        "The program that wrote the file was killed before its first log entry was whole; all that it held before is there. qemu-img convert -O vhdx OLD NEW makes a good file; qemu-img check -r does not.",
     ),
     (
         "the file is shorter than its log says that it was (FlushedFileOffset)",
-        "The copy was broken off: copy the file again.",
+        "The copy broke off: copy the file again.",
     ),
     (
         "the log would write into the first MiB or into itself",
-        "No program writes such a log: treat the file as hostile.",
+        "No program is known to write such a log: take the file for hostile.",
     ),
     (
         "the log would grow the file past the capacity or past 128 TiB",
-        "If the growth is plausible, give more with --capacity. If not, treat the file as hostile.",
+        "If the disk is to be that large, give more with --capacity. If not, take the file for hostile.",
     ),
     (
         "neither copy of the region table is valid",
@@ -46,15 +46,15 @@ const TEXTS: [(&str, &str); 22] = [
     ),
     (
         "an entry of the region table breaks its rule",
-        "Regions overlap, lie outside the file, or one is required and unknown here. A copy that was broken off shows so too: copy it again.",
+        "A region outside the file means a copy that broke off: copy it again. Otherwise the file is damaged, or needs a region that is unknown here.",
     ),
     (
         "there is no BAT region or no metadata region",
-        "The file is damaged, or was not made as a VHDX: ask for another copy.",
+        "The file is damaged: ask for another copy.",
     ),
     (
         "the metadata region is empty, or its table or an entry breaks its rule",
-        "The file is damaged, or needs a metadata item that is unknown here: ask for another copy.",
+        "The file is damaged, or needs a metadata item that is unknown here: ask for another copy, or what made it.",
     ),
     (
         "a needed metadata item is missing or has a wrong length",
@@ -62,11 +62,11 @@ const TEXTS: [(&str, &str); 22] = [
     ),
     (
         "a metadata item's value is out of range",
-        "A disk size above 64 TiB or of no whole sectors, a block or sector size that VHDX does not have, or a bad parent locator. Nothing is charged; ask what made the file.",
+        "A disk size above 64 TiB or not of whole sectors, a sector or block size that VHDX does not have, or a bad parent locator: ask what made the file. Nothing is charged.",
     ),
     (
         "the BAT region is too short for the disk",
-        "The table is held to whole chunks, more than a disk without a parent needs. Other programs may open it: convert it (qemu-img convert -O vhdx) with a larger block size.",
+        "The table has to hold whole chunks, which is more than other programs ask of a disk without a parent. With larger blocks it fits: qemu-img convert -O vhdx -o block_size=33554432 OLD NEW.",
     ),
     (
         "the facts do not fit the image, or the length is above the capacity",
@@ -74,19 +74,19 @@ const TEXTS: [(&str, &str); 22] = [
     ),
     (
         "the disk has no such sector",
-        "Ask for a sector below the disk size divided by the logical sector size.",
+        "Ask for sectors below the disk size divided by the logical sector size.",
     ),
     (
         "the block's state is reserved, or it is partially present without a parent",
-        "The block allocation table is damaged at this block: ask for another copy; other blocks can be read.",
+        "The block allocation table is damaged at this block; others can be read. Ask for another copy.",
     ),
     (
         "the block starts below 1 MiB or ends past the file",
-        "The copy was broken off, or the table is damaged at this block: copy the file again.",
+        "The copy broke off, or the table is damaged at this block: copy the file again.",
     ),
     (
         "the block's sector bitmap is not present, starts below 1 MiB or ends past the file",
-        "The copy was broken off, or the table is damaged at this block: copy the file again.",
+        "The copy broke off, or the table is damaged at this chunk: copy the file again.",
     ),
     (
         "the log's work has no such step",

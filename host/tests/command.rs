@@ -575,7 +575,10 @@ fn names_of_files() {
     };
     assert!(inside(&["attach", "--", "--json"]).starts_with("file: --json, 4194304 bytes\n"));
     let text = inside(&["attach", "--json", "a \"disk\"\n.vhdx"]);
-    assert!(text.starts_with("{\"file\":\"a \\\"disk\\\"\\u000a.vhdx\","), "{text}");
+    assert!(
+        text.starts_with("{\"file\":\"a \\\"disk\\\"\\u000a.vhdx\","),
+        "{text}"
+    );
 }
 
 #[test]

@@ -2,10 +2,11 @@
 mod common;
 
 use common::{assert_applied, assert_contents, assert_refused, assert_same_files};
-use common::{shrunvaki, Answer};
-use shrunvaki_testkit::command::{run, Folder};
+use common::{copy, shrunvaki, Answer};
+use shrunvaki_testkit::command::{end, Folder};
 use std::fs::{self, OpenOptions};
 use std::path::{Path, PathBuf};
+use std::process::Command;
 
 /// Disks without a pending log.
 const CLEAN: [&str; 3] = ["dynamic", "dynamic-8m", "fixed"];
@@ -33,7 +34,7 @@ fn expected(name: &str) -> String {
 
 fn unpack(folder: &Folder, name: &str) -> PathBuf {
     let packed = sample(&format!("{name}.gz"));
-    let unpacked = run("gzip", &["-dc".as_ref(), packed.as_os_str()]).with(0);
+    let unpacked = end(Command::new("gzip").arg("-dc").arg(packed)).with(0);
     folder.write(name, &unpacked.bytes)
 }
 
@@ -41,8 +42,21 @@ fn unpack(folder: &Folder, name: &str) -> PathBuf {
 fn unpack_disk(folder: &Folder, name: &str) -> (PathBuf, PathBuf) {
     let file = unpack(folder, &format!("{name}.vhdx"));
     let original = folder.file("original");
-    fs::copy(&file, &original).expect("a copy");
+    copy(&file, &original);
     (file, original)
+}
+
+/// An answer without the file's name, and with a refusal's number alone in place of its number and words.
+fn essence(answer: &Answer) -> String {
+    let (_, rest) = answer.0.split_once("\"given_length\"").expect("a length");
+    let rest = format!("{{\"given_length\"{rest}");
+    match (answer.refusal(), rest.split_once("{\"number\"")) {
+        (Some(number), Some((before, words))) => {
+            let (_, after) = words.split_once('}').expect("the end of the refusal");
+            format!("{before}{number}{after}")
+        }
+        _ => rest,
+    }
 }
 
 #[test]
@@ -51,7 +65,7 @@ fn attach_answers_what_is_written_beside_each_sample() {
     for name in [&CLEAN[..], &PENDING, &[SHORT, NO_SEQUENCE]].concat() {
         let (file, original) = unpack_disk(&folder, name);
         assert_eq!(
-            Answer::of(&file).essence(),
+            essence(&Answer::of(&file)),
             expected(&format!("{name}.json")),
             "{name}"
         );
@@ -80,6 +94,14 @@ fn the_sectors_are_what_qemu_reads() {
     }
 }
 
+/// Gives a file so many bytes more, or less.
+fn lengthen(file: &Path, by: i64) {
+    let open = OpenOptions::new().write(true).open(file).expect("the file");
+    let length = open.metadata().expect("its length").len();
+    let length = length.checked_add_signed(by).expect("a length");
+    open.set_len(length).expect("another length");
+}
+
 #[test]
 fn a_block_that_ends_past_the_file_is_refused_until_the_file_is_extended() {
     let folder = Folder::new("samples-short");
@@ -89,9 +111,7 @@ fn a_block_that_ends_past_the_file_is_refused_until_the_file_is_extended() {
     let cat = shrunvaki(&["cat"], &file).with(1);
     assert!(cat.bytes == contents[..4 << 20], "two blocks of 2 MiB");
 
-    let length = Answer::of(&file).number("given_length");
-    let open = OpenOptions::new().write(true).open(&file).expect("open");
-    open.set_len(length + (1 << 20)).expect("1 MiB more");
+    lengthen(&file, 1 << 20);
     assert_contents(&file, &raw);
 }
 
@@ -129,9 +149,7 @@ fn a_copy_that_was_broken_off_is_refused() {
     let folder = Folder::new("samples-broken-off");
     for name in PENDING {
         let (file, _) = unpack_disk(&folder, name);
-        let length = Answer::of(&file).number("given_length");
-        let open = OpenOptions::new().write(true).open(&file).expect("open");
-        open.set_len(length - 1).expect("a byte less");
+        lengthen(&file, -1);
         assert_refused(&folder, &file, 6);
     }
 }

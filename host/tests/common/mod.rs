@@ -1,7 +1,5 @@
 //! The command on VHDX files that qemu made: what `samples.rs` and `qemu.rs` share.
-use shrunvaki_testkit::command::{run, Folder, Ran};
-use std::ffi::OsStr;
-use std::fs;
+use shrunvaki_testkit::command::{end, Folder, Ran};
 use std::path::Path;
 use std::process::{Command, Stdio};
 
@@ -15,13 +13,11 @@ const UP_TO_THE_LOGS_END: &str = "--bytes=2097152";
 
 /// Runs the command on a file.
 pub fn shrunvaki(arguments: &[&str], file: &Path) -> Ran {
-    let mut all: Vec<&OsStr> = arguments.iter().map(OsStr::new).collect();
-    all.push(file.as_os_str());
-    run(SHRUNVAKI, &all)
+    end(Command::new(SHRUNVAKI).args(arguments).arg(file))
 }
 
 /// What `attach --json` prints.
-pub struct Answer(String);
+pub struct Answer(pub String);
 
 impl Answer {
     /// Asserts that the status goes with the answer.
@@ -44,19 +40,6 @@ impl Answer {
     pub fn number(&self, name: &str) -> u64 {
         number_in(&self.0, &format!("\"{name}\":"))
     }
-
-    /// Without the file's name, and with a refusal's number alone in place of its number and words.
-    pub fn essence(&self) -> String {
-        let (_, rest) = self.0.split_once(",\"given_length\"").expect("a length");
-        let rest = format!("{{\"given_length\"{rest}");
-        match (self.refusal(), rest.split_once("\"refusal\":{")) {
-            (Some(number), Some((before, words))) => {
-                let (_, after) = words.split_once('}').expect("the end of the refusal");
-                format!("{before}\"refusal\":{number}{after}")
-            }
-            _ => rest,
-        }
-    }
 }
 
 /// The number behind some text.
@@ -73,12 +56,15 @@ pub fn number_in(text: &str, before: &str) -> u64 {
     digits.parse().expect("a number")
 }
 
+/// Copies a file without filling its holes.
+pub fn copy(from: &Path, to: &Path) {
+    end(Command::new("cp").arg("--sparse=always").args([from, to])).with(0);
+}
+
 /// That two files agree, as `cmp` compares them with these options: files need not fit into memory.
 #[track_caller]
 pub fn assert_same_files(options: &[&str], got: &Path, expected: &Path) {
-    let mut arguments: Vec<&OsStr> = options.iter().map(OsStr::new).collect();
-    arguments.extend([got.as_os_str(), expected.as_os_str()]);
-    let ran = run("cmp", &arguments);
+    let ran = end(Command::new("cmp").args(options).args([got, expected]));
     assert_eq!(ran.status, Some(0), "{}{}", ran.text(), ran.errors);
 }
 
@@ -91,16 +77,11 @@ pub fn assert_contents(disk: &Path, raw: &Path) {
         .stdout(Stdio::piped())
         .spawn()
         .expect("the command");
-    let compared = Command::new("cmp")
-        .arg("-")
-        .arg(raw)
-        .stdin(cat.stdout.take().expect("its output"))
-        .output()
-        .expect("cmp");
+    let sectors = cat.stdout.take().expect("its output");
+    let compared = end(Command::new("cmp").arg("-").arg(raw).stdin(sectors));
     let status = cat.wait().expect("its end");
-    let difference = String::from_utf8_lossy(&compared.stdout).into_owned()
-        + &String::from_utf8_lossy(&compared.stderr);
-    assert!(compared.status.success(), "{}: {difference}", disk.display());
+    let difference = format!("{}{}", compared.text(), compared.errors);
+    assert_eq!(compared.status, Some(0), "{}: {difference}", disk.display());
     assert!(status.success(), "{}: {status}", disk.display());
 }
 
@@ -109,12 +90,12 @@ pub fn assert_contents(disk: &Path, raw: &Path) {
 #[track_caller]
 pub fn assert_applied(folder: &Folder, pending: &Path, by_qemu: &Path) {
     let (once, twice) = (folder.file("applied"), folder.file("applied-twice"));
-    fs::copy(pending, &once).expect("a copy");
+    copy(pending, &once);
     let said = shrunvaki(&["attach", "--apply"], &once).with(0).text();
     assert!(said.starts_with("applying: "), "{said}");
     assert_same_files(&[FIRST_MIB], &once, by_qemu);
     assert_same_files(&[UP_TO_THE_LOGS_END], &once, pending);
-    fs::copy(&once, &twice).expect("a copy");
+    copy(&once, &twice);
     shrunvaki(&["attach", "--apply"], &twice).with(0);
     assert_same_files(&[], &twice, &once);
 }
@@ -122,11 +103,11 @@ pub fn assert_applied(folder: &Folder, pending: &Path, by_qemu: &Path) {
 /// That a file is refused by this number whatever is asked of it, and is not changed.
 #[track_caller]
 pub fn assert_refused(folder: &Folder, file: &Path, number: u64) {
-    let copy = folder.file("refused");
-    fs::copy(file, &copy).expect("a copy");
-    assert_eq!(Answer::of(&copy).refusal(), Some(number));
+    let asked = folder.file("refused");
+    copy(file, &asked);
+    assert_eq!(Answer::of(&asked).refusal(), Some(number));
     for arguments in [&["attach", "--apply"][..], &["map"], &["cat"]] {
-        shrunvaki(arguments, &copy).with(1);
+        shrunvaki(arguments, &asked).with(1);
     }
-    assert_same_files(&[], &copy, file);
+    assert_same_files(&[], &asked, file);
 }

@@ -2,7 +2,7 @@
 //! lengths and capacities changed at random.
 use crate::draw::{capacity, Draw};
 use crate::fields::{interesting, of_file, of_log, reseal, Field};
-use crate::files::{bases, Base};
+use crate::files::bases;
 use crate::pair::Pair;
 use crate::questions::{ask, number};
 use crate::seeds;
@@ -13,31 +13,35 @@ use shrunvaki_testkit::vhdx::Facts;
 
 const CASES: u64 = 6_000;
 
-/// A file that is being damaged: where its fields are, the log's first, and where its log's entries start.
-struct Case {
-    image: Image,
-    groups: Vec<Vec<Field>>,
+/// A file that is being damaged: where its fields are, those of its log apart, and where its log's entries start.
+struct Case<'a> {
+    image: &'a mut Image,
+    fields: &'a [Vec<Field>],
+    log_fields: Vec<Field>,
     starts: Vec<usize>,
 }
 
-impl Case {
-    fn new(random: &mut Random, base: &Base, groups: &[Vec<Field>], capacity: u64) -> Case {
-        let mut image = base.image.clone();
+impl<'a> Case<'a> {
+    /// Draws a log for a file. Some have none, with an identifier that says so or not.
+    fn new(
+        random: &mut Random,
+        image: &'a mut Image,
+        draw: Draw,
+        fields: &'a [Vec<Field>],
+    ) -> Case<'a> {
+        draw.base.copy_to(image);
         let starts = match random.below(16) {
             0 => Vec::new(),
             1 => {
-                let zero = [0; 16];
-                image.header(HEADERS[0], 3, zero);
+                image.header(HEADERS[0], 3, [0; 16]);
                 Vec::new()
             }
-            _ => Draw { base, capacity }.log(random, &mut image),
+            _ => draw.log(random, image),
         };
-        let mut all = vec![of_log(&image, &starts)];
-        all.extend_from_slice(groups);
-        all.retain(|group| !group.is_empty());
         Case {
+            log_fields: of_log(image, &starts),
             image,
-            groups: all,
+            fields,
             starts,
         }
     }
@@ -57,13 +61,19 @@ impl Case {
         }
         if !random.one_in(8) {
             for at in [Some(field), twin].into_iter().flatten().map(|f| f.at) {
-                reseal(&mut self.image, &self.starts, at);
+                reseal(self.image, &self.starts, at);
             }
         }
     }
 
+    /// The fields of some part of the file.
     fn group(&self, random: &mut Random) -> &[Field] {
-        &self.groups[random.below(self.groups.len() as u64) as usize]
+        let chosen = random.below(self.fields.len() as u64 + 1) as usize;
+        match self.fields.get(chosen) {
+            None if self.log_fields.is_empty() => &self.fields[0],
+            None => &self.log_fields,
+            Some(group) => group,
+        }
     }
 
     fn field(&self, random: &mut Random) -> Field {
@@ -176,13 +186,15 @@ fn exercise(random: &mut Random, pair: &mut Pair, facts: &Facts) {
 #[test]
 fn damaged_files() {
     let bases = bases();
-    let groups: Vec<_> = bases.iter().map(of_file).collect();
+    let fields: Vec<_> = bases.iter().map(of_file).collect();
     let mut pair = Pair::default();
+    let mut image = bases[0].image.clone();
     let all = seeds::each(1..=CASES, |random| {
         let chosen = random.below(bases.len() as u64) as usize;
         let base = &bases[chosen];
         let capacity = capacity(random, base);
-        let mut case = Case::new(random, base, &groups[chosen], capacity);
+        let draw = Draw { base, capacity };
+        let mut case = Case::new(random, &mut image, draw, &fields[chosen]);
         for _ in 0..random.pick(&[0, 1, 1, 1, 1, 2, 2, 3]) {
             case.damage(random);
         }

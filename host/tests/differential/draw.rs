@@ -81,7 +81,7 @@ impl Draw<'_> {
 
     fn descriptor(&self, random: &mut Random) -> Descriptor {
         let base = self.base;
-        match random.below(128) {
+        match random.below(400) {
             // the first MiB, the log, or near them
             0 => zero(random.below(257) * 4096, 4096),
             1 => zero(
@@ -90,9 +90,9 @@ impl Draw<'_> {
             ),
             2 => zero(random.below(512) * 4096, random.below(64) * M),
             3 => zero(random.number() << 12, random.number() << 12),
-            4..=20 => zero(random.number() << 12, 0),
-            21..=40 => data(base.facts.bat.offset, bat_sector(random)),
-            41..=50 => self.table_sector(random),
+            4..=50 => zero(random.number() << 12, 0),
+            51..=100 => data(base.facts.bat.offset, bat_sector(random)),
+            101..=150 => self.table_sector(random),
             n => self.payload(random, n % 2 == 0),
         }
     }

@@ -88,7 +88,8 @@ pub fn of_file(base: &Base) -> Vec<Vec<Field>> {
         headers.collect(),
         regions.collect(),
         table.collect(),
-        // twice, since few fields hold most of what is judged
+        // often, since few fields hold most of what is judged
+        items.to_vec(),
         items.to_vec(),
         items.to_vec(),
         repeated(&[(0, 8)], bat, 8, 5000).collect(),

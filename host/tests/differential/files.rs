@@ -16,6 +16,16 @@ pub struct Base {
     pub facts: Facts,
 }
 
+impl Base {
+    /// Makes an image a copy of this one, in the memory that it has.
+    pub fn copy_to(&self, image: &mut Image) {
+        image.buffer.clone_from(&self.image.buffer);
+        image.length = self.image.length;
+        image.log_offset = self.image.log_offset;
+        image.log_length = self.image.log_length;
+    }
+}
+
 /// A file's tables, and where it ends: at `length`, though its tables describe `full` bytes that a log may grow it to.
 struct Kind {
     disk: Disk,
@@ -55,11 +65,11 @@ impl Kind {
     }
 }
 
-/// Fills the BAT's first entries. Most bitmaps are there: a lookup in state 7 needs one.
+/// Fills the BAT. Most bitmaps are there: a lookup in state 7 needs one.
 fn fill_bat(image: &mut Image, facts: &Facts, random: &mut Random) {
     let ratio = (facts.logical_sector_size << 23) / facts.block_size;
     let mibs = image.length / M;
-    for number in 0..9_000.min(facts.bat.length / 8) {
+    for number in 0..facts.bat.length / 8 {
         let is_bitmap = number % (ratio + 1) == ratio;
         let state = if is_bitmap && !random.one_in(8) {
             6
@@ -108,13 +118,14 @@ fn with_parent() -> Disk {
     ]))
 }
 
+/// The largest disk in blocks of 1 MiB whose BAT has 1 MiB.
 fn small_blocks(parent: bool) -> Disk {
     let mut disk = if parent {
         with_parent()
     } else {
         Disk::default()
     };
-    sizes(&mut disk, 1, 5 << 30);
+    sizes(&mut disk, 1, 124 << 30);
     disk
 }
 

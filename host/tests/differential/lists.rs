@@ -9,8 +9,9 @@ use crate::seeds;
 use shrunvaki_testkit::image::{Image, SECTOR};
 use shrunvaki_testkit::pending::assert_same;
 use shrunvaki_testkit::random::Random;
-use shrunvaki_testkit::vhdx::Attachment;
-use vhdx_model::{self as model, Plan};
+use shrunvaki_testkit::vhdx::{Attachment, Extent};
+use std::ops::Range;
+use vhdx_model::{self as model, Plan, Sector};
 
 const LISTS: u64 = 1_500;
 
@@ -24,41 +25,53 @@ struct Met {
 
 /// A file as it came, and what an attach of it gives.
 struct Original {
-    buffer: Vec<u8>,
-    length: usize,
+    image: Image,
+    capacity: u64,
     plan: Plan,
     answer: Attachment,
     applied: Vec<u8>,
 }
 
 impl Original {
-    /// Unless its log cannot be applied.
-    fn new(image: &Image, capacity: u64) -> Option<Original> {
-        let buffer = image.buffer[..capacity as usize].to_vec();
-        let plan = model::plan(&buffer, image.length).ok()?;
-        let mut applied = buffer.clone();
-        let answer = model::attach(&mut applied, image.length);
-        Some(Original {
-            buffer,
-            length: image.length as usize,
-            plan,
-            answer,
-            applied,
-        })
+    /// Draws a file with a log that can be applied, in the memory of two buffers that are not needed any more.
+    fn draw(random: &mut Random, base: &Base, mut image: Image, mut applied: Vec<u8>) -> Original {
+        loop {
+            base.copy_to(&mut image);
+            let capacity = capacity(random, base);
+            Draw { base, capacity }.log(random, &mut image);
+            if let Ok(plan) = model::plan(&image.buffer[..capacity as usize], image.length) {
+                applied.clone_from(&image.buffer);
+                let answer = model::attach(&mut applied[..capacity as usize], image.length);
+                return Original {
+                    image,
+                    capacity,
+                    plan,
+                    answer,
+                    applied,
+                };
+            }
+        }
     }
 
     /// "The file differs from the original only in sectors that the applied sequence names and in bytes past the old end."
     #[track_caller]
     fn assert_only_named(&self, buffer: &[u8]) {
-        let mut seen = self.buffer[..self.length].to_vec();
-        for sector in self.plan.sectors() {
-            let at = sector.extent().offset as usize;
-            let end = (at + SECTOR).min(self.length);
-            if at < end {
-                seen[at..end].copy_from_slice(&buffer[at..end]);
-            }
+        let mut named: Vec<Extent> = self.plan.sectors().map(Sector::extent).collect();
+        named.sort_by_key(|extent| extent.offset);
+        let end = self.image.length as usize;
+        let mut from = 0;
+        for extent in named {
+            let at = (extent.offset as usize).clamp(from, end.max(from));
+            self.assert_same(buffer, from..at);
+            from = from.max((extent.offset + extent.length) as usize);
         }
-        assert_same(&buffer[..self.length], &seen, "what the log does not name");
+        self.assert_same(buffer, from..end.max(from));
+    }
+
+    #[track_caller]
+    fn assert_same(&self, buffer: &[u8], part: Range<usize>) {
+        let original = &self.image.buffer[part.clone()];
+        assert_same(&buffer[part], original, "what the log does not name");
     }
 }
 
@@ -114,28 +127,18 @@ fn call(random: &mut Random, pair: &mut Pair, met: &mut Met) {
     }
 }
 
-/// A file with a log that can be applied.
-fn original(random: &mut Random, base: &Base) -> Original {
-    loop {
-        let mut image = base.image.clone();
-        let capacity = capacity(random, base);
-        Draw { base, capacity }.log(random, &mut image);
-        if let Some(original) = Original::new(&image, capacity) {
-            return original;
-        }
-    }
-}
-
 #[test]
 fn interrupted_lists_of_calls() {
     let bases = bases();
     let mut pair = Pair::default();
     let mut met = Met::default();
+    let mut memory = Some((bases[0].image.clone(), Vec::new()));
     let all = seeds::each(1..=LISTS, |random| {
         let chosen = random.below(bases.len() as u64) as usize;
-        let original = original(random, &bases[chosen]);
-        let capacity = original.buffer.len() as u64;
-        pair.load_with(&original.buffer, capacity, original.length as u64);
+        let (image, applied) = memory.take().expect("as the list before left it");
+        let original = Original::draw(random, &bases[chosen], image, applied);
+        let file = &original.image;
+        pair.load_with(&file.buffer, original.capacity, file.length);
         for _ in 0..random.below(6) {
             call(random, &mut pair, &mut met);
             original.assert_only_named(pair.buffer());
@@ -144,6 +147,7 @@ fn interrupted_lists_of_calls() {
         let end = original.answer.length as usize;
         let name = "every byte of the file";
         assert_same(&pair.buffer()[..end], &original.applied[..end], name);
+        memory = Some((original.image, original.applied));
     });
     pair.tally.print("interrupted lists");
     println!("{met:?}");

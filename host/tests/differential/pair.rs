@@ -68,6 +68,19 @@ impl Pair {
         answer
     }
 
+    /// Attaches a file that is answered with a refusal, or 0, and asks for steps before that.
+    #[track_caller]
+    pub fn answers(&mut self, image: &Image, refusal: u64, name: &str) -> Attachment {
+        self.load(image);
+        for k in [1, u64::MAX, 0, 1, 2] {
+            self.step(k);
+        }
+        self.load(image);
+        let answer = self.attach();
+        assert_eq!(answer.refusal, refusal, "{name}");
+        answer
+    }
+
     /// The next call gets the length that this one left.
     fn follow(&mut self, refusal: u64, length: u64) {
         self.tally.add(refusal);

@@ -5,7 +5,7 @@
 //! any moment leaves a state that the theorem of crash safety covers: running the command again gives what an undisturbed run
 //! gives.
 use crate::attach;
-use crate::output::{Output, Status, Stop};
+use crate::output::{note, Output, Status, Stop};
 use crate::progress::Elapsed;
 use crate::source::{Opened, Source};
 use shrunvaki::{Attachment, Image};
@@ -25,7 +25,7 @@ pub fn perform(
 ) -> Result<(Opened, Attachment), Stop> {
     // locked from before the decision until all is flushed: the file that is changed is the one that was judged
     let opened = source.open_exclusive()?;
-    let decided = decide(&opened)?;
+    let decided = attach::answer(&opened)?;
     if matches!(decided.facts, Err(refusal) if refusal.number() <= BEFORE_THE_LOG) {
         return Ok((opened, decided));
     }
@@ -38,13 +38,6 @@ pub fn perform(
     Ok((opened, answer))
 }
 
-/// What attach will answer, by one on a private mapping.
-fn decide(opened: &Opened) -> Result<Attachment, Stop> {
-    let _elapsed = Elapsed::new("reading the log");
-    let mut buffer = opened.buffer()?;
-    Ok(opened.image(&mut buffer).attach())
-}
-
 /// Says what is about to be done, on standard error where standard output is JSON. A closed pipe stops nothing: what was decided is
 /// done.
 fn announce(opened: &Opened, decided: &Attachment, out: &mut Output) -> Result<(), Stop> {
@@ -54,7 +47,7 @@ fn announce(opened: &Opened, decided: &Attachment, out: &mut Output) -> Result<(
     };
     let line = format!("applying: {} sectors, {growth}", decided.count);
     if out.json {
-        eprintln!("{line}");
+        note(format_args!("{line}\n"));
         return Ok(());
     }
     match out.line(&line).and_then(|()| out.flush()) {

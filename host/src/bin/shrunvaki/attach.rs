@@ -3,14 +3,21 @@ use crate::json::Object;
 use crate::output::{
     facts_lines, facts_object, refusal_lines, refusal_object, Output, Status, Stop,
 };
+use crate::progress::Elapsed;
 use crate::source::{Opened, Source};
 use shrunvaki::Attachment;
 
 pub fn run(source: &Source, out: &mut Output) -> Result<Status, Stop> {
     let opened = source.open()?;
-    let mut buffer = opened.buffer()?;
-    let attachment = opened.image(&mut buffer).attach();
+    let attachment = answer(&opened)?;
     report(&opened, &attachment, out)
+}
+
+/// What attach answers, on a private mapping.
+pub fn answer(opened: &Opened) -> Result<Attachment, Stop> {
+    let _elapsed = Elapsed::new("reading the log");
+    let mut buffer = opened.buffer()?;
+    Ok(opened.image(&mut buffer).attach())
 }
 
 /// Prints what attach answered.

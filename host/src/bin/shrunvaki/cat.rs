@@ -1,7 +1,7 @@
 //! `cat FILE`: the bytes of sectors.
 use crate::json::{quoted, Object};
 use crate::lookup;
-use crate::output::{Output, Status, Stop};
+use crate::output::{note, Output, Status, Stop};
 use crate::progress::Progress;
 use crate::runs::{Range, Run, Runs};
 use crate::source::{Disk, Source};
@@ -85,7 +85,10 @@ fn end(out: &mut Output, stopped: Option<Run>) -> Result<Status, Stop> {
         return Ok(Status::Answered);
     };
     if !out.json {
-        eprintln!("shrunvaki: stopped at {}", lookup::line(&run));
+        note(format_args!(
+            "shrunvaki: stopped at {}\n",
+            lookup::line(&run)
+        ));
     }
     match run.answer {
         Ok(_) => Ok(Status::AsksParent),

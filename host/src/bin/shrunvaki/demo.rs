@@ -123,8 +123,7 @@ fn ended(same: bool) -> Result<Status, Stop> {
 
 fn attachment(source: &Source) -> Result<Object, Stop> {
     let opened = source.open()?;
-    let mut buffer = opened.buffer()?;
-    let attachment = opened.image(&mut buffer).attach();
+    let attachment = attach::answer(&opened)?;
     Ok(attach::object(&opened, &attachment))
 }
 

@@ -19,7 +19,7 @@ mod runs;
 mod source;
 
 use arguments::{Action, Arguments};
-use output::{Output, Status, Stop};
+use output::{note, Output, Status, Stop};
 use std::process::ExitCode;
 
 fn main() -> ExitCode {
@@ -29,7 +29,7 @@ fn main() -> ExitCode {
         // whoever read the output has seen enough
         Err(Stop::ClosedPipe) => ExitCode::SUCCESS,
         Err(Stop::Failed(message)) => {
-            eprintln!("shrunvaki: {message}");
+            note(format_args!("shrunvaki: {message}\n"));
             ExitCode::from(2)
         }
     }

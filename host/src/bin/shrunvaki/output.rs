@@ -2,6 +2,7 @@
 use crate::json::Object;
 use crate::source::Name;
 use shrunvaki::{Facts, Refusal};
+use std::fmt;
 use std::io::{self, BufWriter, StdoutLock, Write};
 use std::process::ExitCode;
 
@@ -47,6 +48,11 @@ impl From<io::Error> for Stop {
             _ => Stop::failed(format!("cannot write the output: {error}")),
         }
     }
+}
+
+/// Writes to standard error. That nobody can read it is no reason to stop.
+pub fn note(text: impl fmt::Display) {
+    let _ = write!(io::stderr(), "{text}");
 }
 
 /// Standard output, as text or as JSON.

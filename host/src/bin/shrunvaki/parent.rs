@@ -1,6 +1,6 @@
 //! `parent FILE [KEY]`: what the parent locator holds.
 use crate::json::{quoted, Object};
-use crate::output::{printable, Output, Status, Stop};
+use crate::output::{note, printable, Output, Status, Stop};
 use crate::source::{Disk, Source};
 use shrunvaki::{from_ucs2, to_ucs2};
 
@@ -26,13 +26,17 @@ fn print(disk: &Disk, key: Option<&str>, out: &mut Output) -> Result<Status, Sto
     if out.json {
         out.line(&object(disk, &values).finish())?;
     } else if !disk.facts.has_parent {
-        eprintln!("{}: the disk has no parent", disk.name);
+        note(format_args!("{}: the disk has no parent\n", disk.name));
     } else {
         for (name, value) in &values {
             match (value, key) {
                 (Some(value), Some(_)) => out.line(&printable(value))?,
                 (Some(value), None) => out.line(&format!("{name}: {}", printable(value)))?,
-                (None, Some(_)) => eprintln!("{}: no value under {name}", disk.name),
+                (None, Some(_)) => note(format_args!(
+                    "{}: no value under {}\n",
+                    disk.name,
+                    printable(name)
+                )),
                 (None, None) => {}
             }
         }

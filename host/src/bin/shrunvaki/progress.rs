@@ -1,4 +1,5 @@
 //! A line on standard error while work goes on for long: on a terminal written anew each second, else now and then.
+use crate::output::note;
 use std::io::{self, IsTerminal};
 use std::sync::mpsc::{self, RecvTimeoutError, Sender};
 use std::thread::{self, JoinHandle};
@@ -25,7 +26,7 @@ impl Line {
         }
     }
 
-    /// Writes the line if it is time to. Errors of writing it are no reason to stop.
+    /// Writes the line if it is time to.
     fn say(&mut self, text: impl FnOnce() -> String) {
         let elapsed = self.began.elapsed();
         if elapsed < self.next {
@@ -33,9 +34,9 @@ impl Line {
         }
         let line = format!("{}, {} s", text(), elapsed.as_secs());
         if self.terminal {
-            eprint!("\r{line}\x1b[K");
+            note(format_args!("\r{line}\x1b[K"));
         } else {
-            eprintln!("{line}");
+            note(format_args!("{line}\n"));
         }
         self.written = true;
         self.next = elapsed + Duration::from_secs(if self.terminal { 1 } else { 10 });
@@ -45,7 +46,7 @@ impl Line {
 impl Drop for Line {
     fn drop(&mut self) {
         if self.written && self.terminal {
-            eprintln!();
+            note("\n");
         }
     }
 }

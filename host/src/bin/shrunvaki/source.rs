@@ -1,6 +1,6 @@
 //! A VHDX file, opened and locked, in a buffer.
 use crate::mapping::{say_on_bus_error, Mapping, Writes};
-use crate::output::{printable, refused, Output, Status, Stop};
+use crate::output::{note, printable, refused, Output, Status, Stop};
 use shrunvaki::{Facts, Image};
 use std::ffi::OsString;
 use std::fmt;
@@ -100,6 +100,13 @@ fn lock(file: &File, name: &Name, writes: Writes) -> Result<(), Stop> {
         Err(TryLockError::WouldBlock) => Err(Stop::failed(format!(
             "{name}: another program has locked it; try again when that has ended"
         ))),
+        // some file systems have no locks
+        Err(TryLockError::Error(error)) if writes == Writes::Private => {
+            note(format_args!(
+                "shrunvaki: {name}: read without a lock: {error}\n"
+            ));
+            Ok(())
+        }
         Err(TryLockError::Error(error)) => {
             Err(Stop::failed(format!("{name}: cannot be locked: {error}")))
         }
