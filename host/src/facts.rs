@@ -5,7 +5,9 @@ use std::fmt;
 /// A part of a file.
 #[derive(Debug, PartialEq, Eq, Clone, Copy, Default)]
 pub struct Extent {
+    /// From the file's start, in bytes.
     pub offset: u64,
+    /// In bytes.
     pub length: u64,
 }
 
@@ -20,6 +22,7 @@ impl fmt::Display for Extent {
 pub struct Facts {
     /// In bytes: 512 or 4,096. A sector number counts sectors of this size.
     pub logical_sector_size: u64,
+    /// In bytes: 512 or 4,096. What the disk behind had; sector numbers do not count it.
     pub physical_sector_size: u64,
     /// Of a payload block, in bytes.
     pub block_size: u64,
@@ -31,6 +34,7 @@ pub struct Facts {
     pub disk_id: [u8; 16],
     /// The block allocation table.
     pub bat: Extent,
+    /// The region of the disk's metadata items.
     pub metadata: Extent,
     /// The parent locator; empty at 0 without a parent.
     pub locator: Extent,

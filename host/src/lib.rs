@@ -26,6 +26,8 @@
 //! #     image.buffer[..image.length as usize].to_vec()
 //! # }
 //! ```
+#![warn(missing_docs)]
+
 mod facts;
 mod image;
 pub mod raw;

@@ -109,6 +109,7 @@ impl Refusal {
         Refusal::all().find(|refusal| refusal.number() == number)
     }
 
+    /// Document 01's number.
     pub fn number(self) -> u64 {
         u64::from(self.0)
     }

@@ -72,24 +72,18 @@ const FILES: &[(u64, &str, FileChange)] = &[
     (6, "all ones", |f| {
         log(f, r_entry(u64::MAX, r1_descriptor()))
     }),
-    (6, "before 7", |f| {
-        log(f, r_entry(4 * M, zero(M, 4096)))
-    }),
+    (6, "before 7", |f| log(f, r_entry(4 * M, zero(M, 4096)))),
     (7, "first sector", |f| log(f, r_entry(0, zero(0, 4096)))),
     (7, "log's last sector", |f| {
         log(f, r_entry(0, data(2 * M - 4096, pattern(1))))
     }),
-    (7, "around all", |f| {
-        log(f, r_entry(0, zero(4096, 1 << 63)))
-    }),
+    (7, "around all", |f| log(f, r_entry(0, zero(4096, 1 << 63)))),
     (7, "behind one past 2^64", |f| {
         let top = u64::MAX - 4095;
         log(f, r_entry(0, zero(top, top)).with(zero(M, 4096)))
     }),
     (8, "one byte too few", |f| f.buffer.truncate(4 * MIB - 1)),
-    (8, "descriptor", |f| {
-        log(f, r_entry(0, zero(4 * M, 4096)))
-    }),
+    (8, "descriptor", |f| log(f, r_entry(0, zero(4 * M, 4096)))),
     (8, "past 2^64", |f| {
         log(f, r_entry(0, zero(2 * M, u64::MAX - 4095)))
     }),
@@ -181,8 +175,8 @@ const TABLES: &[(u64, &str, Change)] = &[
     (13, "too short", |d| d.item(DISK_SIZE).length = 7),
     (13, "too long", |d| d.item(LOGICAL).length = 5),
     (13, "empty", |d| {
-        let item = d.item(PHYSICAL);
-        (item.offset, item.length) = (0, 0);
+        d.set(PHYSICAL, &[]);
+        d.item(PHYSICAL).offset = 0;
     }),
     (13, "no locator", |d| d.item(FILE_PARAMETERS).bytes[4] = 2),
     (14, "disk size", |d| {
@@ -225,28 +219,32 @@ const TABLES: &[(u64, &str, Change)] = &[
     }),
 ];
 
-/// A refused lookup: the BAT entries of block 0 and of its bitmap, and the sector.
-const LOOKUPS: &[(u64, &str, bool, [u64; 3])] = &[
-    (17, "behind the last", true, [0, 0, 10 << 20]),
-    (17, "any number", true, [0, 0, MINUS_TEN]),
-    (17, "all ones", false, [0, 0, u64::MAX]),
-    (17, "first to wrap", false, [0, 0, 1 << 55]),
-    (18, "state 4", true, [entry(3, 4), 0, 0]),
-    (18, "state 5", false, [entry(3, 5), 0, 0]),
-    (18, "state 7 without a parent", false, [entry(3, 7), 0, 0]),
-    (18, "before 19", true, [entry(99, 4), 0, 0]),
-    (19, "in the first MiB", false, [entry(0, 6), 0, 0]),
-    (19, "past the image", false, [entry(8, 6), 0, 0]),
-    (19, "highest", true, [0xffff_ffff_fff0_0006, 0, 0]),
-    (19, "before 20", true, [entry(8, 7), 0, 0]),
-    (20, "no bitmap", true, [entry(3, 7), 0, 0]),
-    (20, "state 7", true, [entry(3, 7), entry(3, 7), 0]),
-    (20, "in the first MiB", true, [entry(3, 7), entry(0, 6), 0]),
-    (20, "past the image", true, [entry(3, 7), entry(8, 6), 0]),
-];
+/// A refused lookup: with a parent or not, the BAT entries of block 0 and of its bitmap, and the sector.
+type RefusedLookup = (u64, &'static str, bool, [u64; 3]);
+
+fn refused_lookups() -> Vec<RefusedLookup> {
+    vec![
+        (17, "behind the last", true, [0, 0, 10 << 20]),
+        (17, "any number", true, [0, 0, MINUS_TEN]),
+        (17, "all ones", false, [0, 0, u64::MAX]),
+        (17, "first to wrap", false, [0, 0, 1 << 55]),
+        (18, "state 4", true, [entry(3, 4), 0, 0]),
+        (18, "state 5", false, [entry(3, 5), 0, 0]),
+        (18, "state 7 without a parent", false, [entry(3, 7), 0, 0]),
+        (18, "before 19", true, [entry(99, 4), 0, 0]),
+        (19, "in the first MiB", false, [entry(0, 6), 0, 0]),
+        (19, "past the image", false, [entry(8, 6), 0, 0]),
+        (19, "highest", true, [0xffff_ffff_fff0_0006, 0, 0]),
+        (19, "before 20", true, [entry(8, 7), 0, 0]),
+        (20, "no bitmap", true, [entry(3, 7), 0, 0]),
+        (20, "state 7", true, [entry(3, 7), entry(3, 7), 0]),
+        (20, "in the first MiB", true, [entry(3, 7), entry(0, 6), 0]),
+        (20, "past the image", true, [entry(3, 7), entry(8, 6), 0]),
+    ]
+}
 
 fn lookups(pair: &mut Pair) {
-    for &(refusal, name, has_parent, [block, bitmap, sector]) in LOOKUPS {
+    for (refusal, name, has_parent, [block, bitmap, sector]) in refused_lookups() {
         let mut sample = Sample::small(has_parent);
         sample.set_entry(0, block);
         sample.set_entry(4096, bitmap);

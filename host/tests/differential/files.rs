@@ -118,7 +118,14 @@ fn with_parent() -> Disk {
     ]))
 }
 
-/// The largest disk in blocks of 1 MiB whose BAT has 1 MiB.
+/// Blocks of 32 MiB. Most disks here are the largest whose BAT has 1 MiB.
+fn usual_blocks() -> Disk {
+    let mut disk = Disk::default();
+    sizes(&mut disk, 32, 4064 << 30);
+    disk
+}
+
+/// Blocks of 1 MiB.
 fn small_blocks(parent: bool) -> Disk {
     let mut disk = if parent {
         with_parent()
@@ -132,7 +139,7 @@ fn small_blocks(parent: bool) -> Disk {
 /// Sectors of 4,096 bytes, a parent, and the log behind the regions.
 fn large_sectors() -> Kind {
     let mut disk = with_parent();
-    sizes(&mut disk, 2, (9 << 30) + 4096);
+    sizes(&mut disk, 2, (224 << 30) - 4096);
     disk.set(LOGICAL, &4096u32.to_le_bytes());
     place(&mut disk, (M, M), (2 * M, M));
     let mut kind = Kind::new(disk, 5 * M);
@@ -186,7 +193,7 @@ fn grown_by_its_log(parent: bool) -> Kind {
 pub fn bases() -> Vec<Base> {
     let mut random = Random::new(7);
     let kinds = [
-        Kind::new(Disk::default(), 4 * M),
+        Kind::new(usual_blocks(), 4 * M),
         Kind::new(small_blocks(false), 5 * M),
         Kind::new(small_blocks(true), 5 * M),
         large_sectors(),

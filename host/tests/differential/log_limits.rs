@@ -104,7 +104,12 @@ fn flushed_and_last_file_offset() {
     for last in [128 * TIB - 1, 128 * TIB, 128 * TIB + 1, u64::MAX] {
         let mut entry = Entry::new(1, 0);
         entry.last = last;
-        of(&mut pair, &with_entry(end, &entry), 8, &format!("last {last}"));
+        of(
+            &mut pair,
+            &with_entry(end, &entry),
+            8,
+            &format!("last {last}"),
+        );
     }
 }
 
@@ -218,7 +223,10 @@ fn which_sequence_is_active() {
         // equal heads
         (&[(9, 4, 9), (3, 4, 3)], &[3]),
         (&[(8, 3, 8), (9, 4, 8), (20, 4, 20)], &[8, 9]),
-        (&[(20, 3, 20), (21, 4, 20), (30, 4, 30), (2, 4, 1)], &[20, 21]),
+        (
+            &[(20, 3, 20), (21, 4, 20), (30, 4, 30), (2, 4, 1)],
+            &[20, 21],
+        ),
         // the lowest first offset, not the lowest head
         (&[(255, 3, 255), (0, 4, 255), (9, 4, 9)], &[9]),
         // Tails elsewhere

@@ -73,7 +73,8 @@ fn sectors_at_boundaries() {
             let sectors = sample.facts.disk_size / logical;
             let block = block_size / logical;
             for unit in [1, 8, block, 1 << 23, sectors] {
-                for number in [0, 1, 2, sectors / unit - 1, sectors / unit] {
+                let units = sectors / unit;
+                for number in [0, 1, 2, units.saturating_sub(1), units] {
                     let sector = number * unit;
                     for near in [sector.saturating_sub(1), sector, sector + 1] {
                         pair.lookup(&sample.facts, near);

@@ -134,7 +134,11 @@ fn places_of_items() {
         (u32::MAX, u32::MAX, 12),
     ] {
         for flags in [0, IS_USER, IS_REQUIRED, IS_USER | IS_REQUIRED, 2, !5] {
-            let refusal = if flags & IS_REQUIRED != 0 { 12 } else { refusal };
+            let refusal = if flags & IS_REQUIRED != 0 {
+                12
+            } else {
+                refusal
+            };
             let one_more = |disk: &mut Disk| {
                 // a metadata region of 2 MiB behind the BAT
                 disk.length = 6 * MIB;
@@ -175,7 +179,15 @@ fn sizes() {
             after(&mut pair, |d| d.set(item, &bytes), refusal, &name);
         }
     }
-    for (mib, refusal) in [(0, 14), (1, 0), (2, 0), (3, 14), (255, 14), (256, 0), (512, 14)] {
+    for (mib, refusal) in [
+        (0, 14),
+        (1, 0),
+        (2, 0),
+        (3, 14),
+        (255, 14),
+        (256, 0),
+        (512, 14),
+    ] {
         for more in [0, 1] {
             let refusal = if more == 1 { 14 } else { refusal };
             let change = |disk: &mut Disk| {
@@ -185,7 +197,20 @@ fn sizes() {
         }
     }
     let top = 64 * TIB;
-    let ranges = [0, 1, 511, 512, 513, 1024, 4096, top - 1, top - 512, top, top + 512, 1 << 63];
+    let ranges = [
+        0,
+        1,
+        511,
+        512,
+        513,
+        1024,
+        4096,
+        top - 1,
+        top - 512,
+        top,
+        top + 512,
+        1 << 63,
+    ];
     for size in ranges {
         let in_range = size != 0 && size <= top && size % 512 == 0;
         let refusal = match size {
@@ -213,7 +238,7 @@ fn the_shortest_bat() {
     // block size in MiB, logical sector size, and the largest disk that a BAT of 1 and 2 MiB does for
     let cases: [(u64, u32, [u64; 2]); 4] = [
         (1, 512, [124 << 30, 252 << 30]),
-        (32, 512, [4060 << 30, 8124 << 30]),
+        (32, 512, [4064 << 30, 8128 << 30]),
         (1, 4096, [96 << 30, 224 << 30]),
         (256, 4096, [1016 * 32 << 30, 2032 * 32 << 30]),
     ];
@@ -238,20 +263,26 @@ fn the_shortest_bat() {
 fn parent_locators() {
     let mut pair = Pair::default();
     let good = locator(&[("key", "value"), ("k", "v")]);
-    let end = good.len() as u32;
-    for (length, refusal) in [(0, 14), (19, 14), (20, 14), (43, 14), (end - 1, 14), (end, 0)] {
+    let end = good.len();
+    for (length, refusal) in [
+        (0, 14),
+        (19, 14),
+        (20, 14),
+        (43, 14),
+        (end - 1, 14),
+        (end, 0),
+    ] {
         let mut disk = Disk::with_parent(good.clone());
-        let item = disk.item(LOCATOR);
-        item.length = length;
+        disk.set(LOCATOR, &good[..length]);
         if length == 0 {
-            item.offset = 0;
+            disk.item(LOCATOR).offset = 0;
         }
         of(&mut pair, &disk, refusal, &format!("{length} bytes"));
     }
     // each of the two entries: offset of the key and of the value
     for at in [20, 24, 32, 36] {
         let length = u32::from(good[at + 8 - (at - 20) % 12 / 4 * 2]);
-        let longest = end - length;
+        let longest = end as u32 - length;
         for (offset, refusal) in [(0, 0), (longest, 0), (longest + 1, 14), (u32::MAX, 14)] {
             let mut bytes = good.clone();
             put32(&mut bytes, at, offset);

@@ -6,9 +6,10 @@
 //! gives.
 use crate::attach;
 use crate::output::{note, Output, Status, Stop};
-use crate::progress::Elapsed;
+use crate::progress::timed;
 use crate::source::{Opened, Source};
 use shrunvaki::{Attachment, Image};
+use std::io;
 
 /// The refusals that come before anything is written.
 const BEFORE_THE_LOG: u64 = 8;
@@ -58,12 +59,12 @@ fn announce(opened: &Opened, decided: &Attachment, out: &mut Output) -> Result<(
 
 /// Extends the file to its final length, applies the log, and has all of it reach the disk.
 fn apply(opened: &Opened, length: u64) -> Result<Attachment, Stop> {
-    let _elapsed = Elapsed::new("applying the log");
     let mut buffer = opened.grown(length)?;
-    let answer = Image::new(buffer.bytes(), length).attach();
-    buffer
-        .flush()
-        .and_then(|()| opened.file.sync_all())
-        .map_err(|error| Stop::failed(format!("{}: {error}", opened.name)))?;
-    Ok(answer)
+    timed("applying the log", || {
+        let answer = Image::new(buffer.bytes(), length).attach();
+        buffer.flush()?;
+        opened.file.sync_all()?;
+        Ok(answer)
+    })
+    .map_err(|error: io::Error| Stop::failed(format!("{}: {error}", opened.name)))
 }

@@ -3,7 +3,7 @@ use crate::json::Object;
 use crate::output::{
     facts_lines, facts_object, refusal_lines, refusal_object, Output, Status, Stop,
 };
-use crate::progress::Elapsed;
+use crate::progress::timed;
 use crate::source::{Opened, Source};
 use shrunvaki::Attachment;
 
@@ -15,9 +15,9 @@ pub fn run(source: &Source, out: &mut Output) -> Result<Status, Stop> {
 
 /// What attach answers, on a private mapping.
 pub fn answer(opened: &Opened) -> Result<Attachment, Stop> {
-    let _elapsed = Elapsed::new("reading the log");
     let mut buffer = opened.buffer()?;
-    Ok(opened.image(&mut buffer).attach())
+    let mut image = opened.image(&mut buffer);
+    Ok(timed("reading the log", || image.attach()))
 }
 
 /// Prints what attach answered.

@@ -32,13 +32,13 @@ fn write_all(disk: &Disk, range: Range, out: &mut Output) -> Result<Status, Stop
     let mut progress = Progress::new("reading");
     let stopped = runs.try_for_each(|run| {
         progress.at(run.first - range.first, all);
-        let length = run.count * sector_size;
         match run.answer {
             Ok(Lookup::File(offset)) => {
-                let bytes = &disk.image.bytes()[offset as usize..][..length as usize];
+                let length = (run.count * sector_size) as usize;
+                let bytes = &disk.image.bytes()[offset as usize..][..length];
                 write(out, bytes.chunks(PIECE)).map_err(Err)
             }
-            Ok(Lookup::Zero) => write(out, zeros(length)).map_err(Err),
+            Ok(Lookup::Zero) => write(out, zeros(run.count * sector_size)).map_err(Err),
             // the run that the command stops at
             _ => Err(Ok(run)),
         }

@@ -67,7 +67,7 @@ fn tell(disk: &Source, undisturbed: &Source, out: &mut Output) -> Result<Status,
     heading(out, &format!("shrunvaki attach --apply {name}"))?;
     crash(disk)?;
     out.line(&format!(
-        "(killed after {WRITTEN} sectors, with garbage in the one being written)"
+        "(as a kill would leave it: {WRITTEN} sectors written, and garbage in the next)"
     ))?;
     out.line("\nOnce more, undisturbed:")?;
     heading(out, &format!("shrunvaki attach --apply {name}"))?;

@@ -1,12 +1,14 @@
 //! A line on standard error while work goes on for long: on a terminal written anew each second, else now and then.
 use crate::output::note;
 use std::io::{self, IsTerminal};
-use std::sync::mpsc::{self, RecvTimeoutError, Sender};
-use std::thread::{self, JoinHandle};
+use std::sync::mpsc::{self, RecvTimeoutError};
+use std::thread;
 use std::time::{Duration, Instant};
 
 /// Short work says nothing.
 const SILENT: Duration = Duration::from_secs(2);
+
+const TICK: Duration = Duration::from_millis(500);
 
 /// Where and how often the line is written.
 struct Line {
@@ -70,7 +72,7 @@ impl Progress {
     /// `done` of `all` is done. Looks at the clock now and then alone.
     pub fn at(&mut self, done: u64, all: u64) {
         self.calls = self.calls.wrapping_add(1);
-        if self.calls.is_multiple_of(4096) {
+        if self.calls.is_multiple_of(64) {
             let percent = u128::from(done) * 100 / u128::from(all.max(1));
             let work = self.work;
             self.line.say(|| format!("{work}: {percent} %"));
@@ -78,35 +80,20 @@ impl Progress {
     }
 }
 
-/// How long one call has taken that says nothing itself. Ends when it is dropped.
-pub struct Elapsed {
-    stop: Option<Sender<()>>,
-    thread: Option<JoinHandle<()>>,
-}
-
-impl Elapsed {
-    pub fn new(work: &'static str) -> Elapsed {
-        let (stop, stopped) = mpsc::channel();
-        let thread = thread::spawn(move || {
-            let mut line = Line::new();
-            let tick = Duration::from_millis(500);
-            while stopped.recv_timeout(tick) == Err(RecvTimeoutError::Timeout) {
-                line.say(|| work.to_string());
-            }
-        });
-        Elapsed {
-            stop: Some(stop),
-            thread: Some(thread),
+/// Does work that says nothing itself, and says how long it has taken so far.
+pub fn timed<T>(work: &'static str, call: impl FnOnce() -> T) -> T {
+    let (stop, stopped) = mpsc::channel::<()>();
+    let watch = move || {
+        let mut line = Line::new();
+        // dropping the other end ends this
+        while stopped.recv_timeout(TICK) == Err(RecvTimeoutError::Timeout) {
+            line.say(|| work.to_string());
         }
-    }
-}
-
-impl Drop for Elapsed {
-    fn drop(&mut self) {
-        drop(self.stop.take());
-        if let Some(thread) = self.thread.take() {
-            // it only prints; whether it ended well changes nothing
-            let _ = thread.join();
-        }
-    }
+    };
+    thread::scope(|scope| {
+        scope.spawn(watch);
+        let result = call();
+        drop(stop);
+        result
+    })
 }

@@ -1,6 +1,7 @@
 //! A VHDX file, opened and locked, in a buffer.
 use crate::mapping::{say_on_bus_error, Mapping, Writes};
 use crate::output::{note, printable, refused, Output, Status, Stop};
+use crate::progress::timed;
 use shrunvaki::{Facts, Image};
 use std::ffi::OsString;
 use std::fmt;
@@ -57,7 +58,7 @@ impl Source {
         let mut buffer = opened.buffer()?;
         let mut image = opened.image(&mut buffer);
         let name = &opened.name;
-        match image.attach().facts {
+        match timed("reading the log", || image.attach()).facts {
             Ok(facts) => go_on(&Disk { name, image, facts }, out),
             Err(refusal) => refused(out, name, refusal),
         }
