@@ -1,6 +1,7 @@
 //! Has `rt staticlib` prove a crate of the library and write its archive, where that was not done for the very files that are
 //! there now.
 use std::collections::{BTreeMap, BTreeSet};
+use std::env;
 use std::ffi::OsStr;
 use std::fs::{self, File};
 use std::hash::{DefaultHasher, Hash, Hasher};
@@ -11,28 +12,36 @@ use std::process::Command;
 pub fn link(name: &str, root: &str) {
     let root = Path::new(env!("CARGO_MANIFEST_DIR")).join(root);
     let root = root.canonicalize().expect("the repository's top");
-    let folder = root.join("target/staticlib");
-    build(name, &root, &folder);
+    let archive = build(name, &root);
+    // a copy of cargo's own: `rt ci` removes the folder in which rt writes it
+    let folder = PathBuf::from(env::var_os("OUT_DIR").expect("cargo's folder"));
+    fs::copy(&archive, folder.join(format!("lib{name}.a"))).expect("a copy of the archive");
     println!("cargo:rustc-link-search=native={}", folder.display());
     println!("cargo:rustc-link-lib=static={name}");
 }
 
-/// One build at a time: two that prove the same crates would write the same files.
-fn build(name: &str, root: &Path, folder: &Path) {
+/// Has the archive made, and answers where it is. One build at a time: two that prove the same crates would write the same files.
+fn build(name: &str, root: &Path) -> PathBuf {
     let crates = reached(name, root);
     for path in sources(&crates, root) {
         println!("cargo:rerun-if-changed={}", path.display());
     }
+    let folder = root.join("target/staticlib");
     let archive = folder.join(format!("lib{name}.a"));
-    println!("cargo:rerun-if-changed={}", archive.display());
-
-    fs::create_dir_all(folder).expect("the folder target/staticlib");
+    fs::create_dir_all(&folder).expect("the folder target/staticlib");
     let lock = File::create(folder.join(".lock")).expect("a file in target/staticlib");
     lock.lock().expect("the lock of target/staticlib");
     let stamp = folder.join(format!("lib{name}.made-from"));
-    let made_from = fingerprint(&crates, root);
-    if archive.exists() && fs::read_to_string(&stamp).is_ok_and(|text| text == made_from) {
-        return;
+    let sources = fingerprint(&crates, root);
+    // the archive's own bytes count too: `rt staticlib`, run by hand, may have written it from other sources
+    let state = || {
+        Some(format!(
+            "{sources} {:016x}\n",
+            hash(&fs::read(&archive).ok()?)
+        ))
+    };
+    if state().is_some() && state() == fs::read_to_string(&stamp).ok() {
+        return archive;
     }
     // proves what the crate needs, several crates at a time; `rt staticlib` alone proves one after the other
     let below: Vec<&str> = crates
@@ -42,7 +51,8 @@ fn build(name: &str, root: &Path, folder: &Path) {
         .collect();
     rt(root, &[&["check"], &below[..]].concat());
     rt(root, &["staticlib", name]);
-    fs::write(stamp, made_from).expect("a file in target/staticlib");
+    fs::write(stamp, state().expect("the archive")).expect("a file in target/staticlib");
+    archive
 }
 
 /// Runs rt; its lines reach whoever runs cargo with -vv.
@@ -119,5 +129,11 @@ fn fingerprint(crates: &BTreeSet<String>, root: &Path) -> String {
             fs::read(&path).expect("a source").hash(&mut hasher);
         }
     }
-    format!("{:016x}\n", hasher.finish())
+    format!("{:016x}", hasher.finish())
+}
+
+fn hash(bytes: &[u8]) -> u64 {
+    let mut hasher = DefaultHasher::new();
+    bytes.hash(&mut hasher);
+    hasher.finish()
 }

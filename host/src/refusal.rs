@@ -82,7 +82,7 @@ const TEXTS: [(&str, &str); 22] = [
     ),
     (
         "the block starts below 1 MiB or ends past the file",
-        "The copy broke off, or the table is damaged at this block: copy the file again.",
+        "The copy broke off, or the table is damaged at this block: copy the file again. qemu ends the file of some fixed disks inside the last block: extend a copy by zeros up to the block's end (truncate -s).",
     ),
     (
         "the block's sector bitmap is not present, starts below 1 MiB or ends past the file",

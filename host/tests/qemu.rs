@@ -4,7 +4,7 @@ mod common;
 
 use common::{assert_applied, assert_contents, assert_refused, assert_same_files};
 use common::{copy, number_in, Answer};
-use shrunvaki_testkit::command::{end, Folder, Ran};
+use shrunvaki_testkit::command::{end, run, Folder, Ran};
 use shrunvaki_testkit::random::Random;
 use std::fs;
 use std::io::{self, Write};
@@ -14,7 +14,7 @@ use std::process::{Command, Stdio};
 const MIB: u64 = 1 << 20;
 const SECTOR: u64 = 512;
 
-/// Whether programs are there. Says so if one is not, past the harness, which shows no output of tests that pass.
+/// Whether programs are there. Says so if one is not.
 fn available(test: &str, programs: &[&str]) -> bool {
     let missing = programs.iter().find(|program| {
         let version = Command::new(program)
@@ -24,9 +24,14 @@ fn available(test: &str, programs: &[&str]) -> bool {
         version.is_err()
     });
     if let Some(program) = missing {
-        let _ = writeln!(io::stderr(), "skipped: {test}: {program} is not here");
+        skipped(test, &format!("{program} is not here"));
     }
     missing.is_none()
+}
+
+/// Says that a test is skipped, past the harness, which shows no output of tests that pass.
+fn skipped(test: &str, why: &str) {
+    let _ = writeln!(io::stderr(), "skipped: {test}: {why}");
 }
 
 /// Runs `qemu-img` on files, which come behind the arguments.
@@ -340,6 +345,16 @@ fn what_a_killed_writer_leaves() {
 #[test]
 fn a_log_that_has_gone_round_its_ring() {
     if !available("a log gone round", &["qemu-img", "qemu-io", "cc"]) {
+        return;
+    }
+    if !run("qemu-img", &["--version"])
+        .text()
+        .contains("version 7.2")
+    {
+        skipped(
+            "a log gone round",
+            "the writes are counted as qemu 7.2 does them",
+        );
         return;
     }
     let folder = Folder::new("qemu-ring");

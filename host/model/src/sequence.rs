@@ -1,11 +1,12 @@
 //! Log sequences, and which of them is active: every list that could be one is tried.
 use crate::log::{Entry, Log};
+use std::num::NonZeroU64;
 
 /// A log sequence: its first entry's place, its head's number, and how many entries it has.
 #[derive(Clone, Copy)]
 struct Sequence {
     first: usize,
-    head_number: u64,
+    head_number: NonZeroU64,
     entries: usize,
 }
 
@@ -33,7 +34,7 @@ pub fn active(log: &Log) -> Option<Vec<Entry>> {
 fn longest(log: &Log, valid: &[Option<Entry>], first: usize) -> Option<Sequence> {
     let mut found = None;
     for (i, last) in chain(log, valid, first).enumerate() {
-        if last.tail == first {
+        if last.tail() == first {
             found = Some(Sequence {
                 first,
                 head_number: last.number,
@@ -55,11 +56,11 @@ fn chain<'a>(
     let mut next = valid[first];
     std::iter::from_fn(move || {
         let entry = next?;
-        total += entry.sectors;
+        total += entry.sectors();
         if total > log.sectors() {
             return None;
         }
-        next = valid[log.advance(entry.start, entry.sectors)]
+        next = valid[log.advance(entry.start(), entry.sectors())]
             .filter(|e| entry.number.checked_add(1) == Some(e.number));
         Some(entry)
     })

@@ -2,7 +2,7 @@
 //! all of them are decided.
 use crate::bytes::{MIB, SECTOR, TIB};
 use crate::header::Header;
-use crate::log::{Descriptor, Entry, Log};
+use crate::log::{Entry, Log, Named};
 use crate::sequence;
 use crate::Extent;
 
@@ -77,106 +77,79 @@ pub fn plan(buffer: &[u8], length: u64) -> Result<Plan, u64> {
     if !header.keeps_rules(length) {
         return Err(4);
     }
-    let work = if header.has_log() {
-        of_log(image, &header)?
+    let active = if header.has_log() {
+        Active::new(image, &header)?
     } else {
-        Work::nothing(length)
+        Active::default()
     };
-    if work.length > u128::from(capacity.min(LONGEST_IMAGE)) {
+    let final_length = active.final_length(length, header.log)?;
+    if final_length > u128::from(capacity.min(LONGEST_IMAGE)) {
         return Err(8);
     }
-    Ok(work.plan(header.log))
+    Ok(active.plan(final_length as u64, header.log))
 }
 
-/// The work before 8 is decided: ends of ranges may pass 2^64.
-struct Work {
-    length: u128,
-    ranges: Vec<(Sector, Extent)>,
+/// The active sequence: its log and its entries. "Log identifier zero: no active sequence."
+#[derive(Default)]
+struct Active<'a> {
+    log: Log<'a>,
+    entries: Vec<Entry>,
 }
 
-/// The work of the active sequence, or refusals 5 to 7.
-fn of_log(image: &[u8], header: &Header) -> Result<Work, u64> {
-    let start = header.log.offset as usize;
-    let bytes = &image[start..start + header.log.length as usize];
-    let log = Log::new(bytes, header.log_id);
-    let entries = sequence::active(&log).ok_or(5u64)?;
-    let head = *entries.last().ok_or(5u64)?;
-    let length = image.len() as u64;
-    if length < log.flushed_file_offset(head) {
-        return Err(6);
+impl<'a> Active<'a> {
+    /// Unless no sequence exists (5).
+    fn new(image: &'a [u8], header: &Header) -> Result<Active<'a>, u64> {
+        let start = header.log.offset as usize;
+        let bytes = &image[start..start + header.log.length as usize];
+        let log = Log::new(bytes, header.log_id);
+        let entries = sequence::active(&log).ok_or(5u64)?;
+        Ok(Active { log, entries })
     }
-    let mut work = Work::nothing(length);
-    work.grow_to(log.last_file_offset(head).into());
-    work.add_sectors(&log, &entries);
-    let first_mib = Extent {
-        offset: 0,
-        length: MIB,
-    };
-    // ranges are whole sectors, so that a range shares a byte where one of its sectors does
-    let forbidden =
-        |range: Extent| range.shares_a_byte(first_mib) || range.shares_a_byte(header.log);
-    if work.ranges.iter().any(|&(_, range)| forbidden(range)) {
-        return Err(7);
-    }
-    Ok(work)
-}
 
-impl Work {
-    /// No sectors, and no growth.
-    fn nothing(length: u64) -> Work {
-        Work {
-            length: length.into(),
-            ranges: Vec::new(),
+    /// What descriptors "that name at least one sector" name, from the first entry on.
+    fn named(&self) -> impl Iterator<Item = Named> + '_ {
+        let all = self.entries.iter().flat_map(|&entry| self.log.named(entry));
+        all.filter(|named| named.range.length != 0)
+    }
+
+    /// What the image grows to, or refusals 6 and 7. It may pass 2^64.
+    fn final_length(&self, length: u64, log: Extent) -> Result<u128, u64> {
+        let Some(&head) = self.entries.last() else {
+            return Ok(length.into());
+        };
+        if length < self.log.flushed_file_offset(head) {
+            return Err(6);
         }
-    }
-
-    fn grow_to(&mut self, length: u128) {
-        self.length = self.length.max(length);
-    }
-
-    /// Takes up each descriptor "that names at least one sector", from the first entry on.
-    fn add_sectors(&mut self, log: &Log, entries: &[Entry]) {
-        for descriptor in entries.iter().flat_map(|&entry| log.descriptors(entry)) {
-            let (first, range) = match descriptor {
-                Descriptor::Zero(range) => {
-                    let offset = range.offset;
-                    (Sector::Zeros { offset }, range)
-                }
-                Descriptor::Data {
-                    offset,
-                    descriptor,
-                    sector,
-                } => {
-                    let first = Sector::Data {
-                        offset,
-                        descriptor,
-                        sector,
-                    };
-                    (first, first.extent())
-                }
-            };
-            if range.length != 0 {
-                self.grow_to(u128::from(range.offset) + u128::from(range.length));
-                self.ranges.push((first, range));
-            }
+        let first_mib = Extent {
+            offset: 0,
+            length: MIB,
+        };
+        // ranges are whole sectors, so that a range shares a byte where one of its sectors does
+        let forbidden = |range: Extent| range.shares_a_byte(first_mib) || range.shares_a_byte(log);
+        if self.named().any(|named| forbidden(named.range)) {
+            return Err(7);
         }
+        let end = |range: Extent| u128::from(range.offset) + u128::from(range.length);
+        let farthest = self.named().map(|named| end(named.range)).max();
+        let least = length.max(self.log.last_file_offset(head));
+        Ok(farthest.unwrap_or(0).max(least.into()))
     }
 
-    /// The plan, once the length is known to be at most 128 TiB: so is each range, so that the count does not wrap.
-    fn plan(self, log: Extent) -> Plan {
+    /// The plan, once the final length is known to be at most 128 TiB: so is each range, so that the count does not wrap.
+    fn plan(&self, length: u64, log: Extent) -> Plan {
         let mut count = 0;
-        let mut runs = Vec::with_capacity(self.ranges.len());
-        for (first, range) in self.ranges {
+        let run = |named: Named| {
             let run = Run {
                 before: count,
-                count: range.length / SECTOR as u64,
-                first,
+                count: named.range.length / SECTOR as u64,
+                first: named.first,
             };
             count += run.count;
-            runs.push(run);
-        }
+            run
+        };
+        let runs = self.named().map(run).collect();
         Plan {
-            length: self.length as u64,
+            length,
             count,
             log,
             runs,

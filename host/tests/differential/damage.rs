@@ -11,7 +11,7 @@ use shrunvaki_testkit::random::Random;
 use shrunvaki_testkit::sample::M;
 use shrunvaki_testkit::vhdx::Facts;
 
-const CASES: u64 = 6_000;
+const CASES: u64 = 5_000;
 
 /// A file that is being damaged: where its fields are, those of its log apart, and where its log's entries start.
 struct Case<'a> {

@@ -112,12 +112,13 @@ impl Draw<'_> {
     fn payload(&self, random: &mut Random, zeros: bool) -> Descriptor {
         let sectors = self.capacity / 4096;
         let length = (self.base.image.length / 4096).min(sectors);
-        let back = (length + random.below(sectors - length + 1)).saturating_sub(random.below(8));
-        let at = back.min(sectors - 1) * 4096;
+        let near_end = length + random.below(sectors - length + 1);
+        let at = near_end.saturating_sub(random.below(8)).min(sectors - 1);
         if zeros {
-            zero(at, (1 + random.below(4)) * 4096)
+            let most = if random.one_in(64) { 8 } else { sectors - at };
+            zero(at * 4096, (1 + random.below(most.min(4))) * 4096)
         } else {
-            data(at, pattern(random.number() as u8))
+            data(at * 4096, pattern(random.number() as u8))
         }
     }
 }

@@ -199,8 +199,11 @@ fn numbers_of_descriptors() {
     }
 }
 
-/// Lays entries of one sector: where each is, its number and its Tail. An entry writes one sector, which tells its place.
-fn ring(entries: &[(usize, u64, usize)]) -> Image {
+/// An entry of one sector: where it is, its number and its Tail.
+type Placed = (usize, u64, usize);
+
+/// Lays entries that write one sector each, which tells the entry's place.
+fn ring(entries: &[Placed]) -> Image {
     let mut image = Image::new(3 * MIB, 3 * M, MIB, GUID);
     image.buffer[2 * MIB..].fill(5);
     for &(at, number, tail) in entries {
@@ -214,8 +217,8 @@ fn ring(entries: &[(usize, u64, usize)]) -> Image {
 fn which_sequence_is_active() {
     let mut pair = Pair::default();
     let top = u64::MAX;
-    // the places of the entries that are applied
-    let cases: &[(&[(usize, u64, usize)], &[usize])] = &[
+    // entries, and the places of those that are applied
+    let cases: &[(&[Placed], &[usize])] = &[
         (&[(0, top, 0)], &[0]),
         (&[(0, top - 1, 0), (1, top, 0)], &[0, 1]),
         (&[(0, top, 0), (1, 1, 0)], &[0]),

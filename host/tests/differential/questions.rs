@@ -4,7 +4,7 @@ use crate::files::KEYS;
 use crate::pair::Pair;
 use shrunvaki_testkit::random::Random;
 use shrunvaki_testkit::tables::ucs2;
-use shrunvaki_testkit::vhdx::Facts;
+use shrunvaki_testkit::vhdx::{self, Facts, HAS_PARENT};
 
 /// Looks up sectors and keys with these facts and with facts that differ from them.
 pub fn ask(random: &mut Random, pair: &mut Pair, facts: &Facts) {
@@ -38,31 +38,21 @@ fn sector(random: &mut Random, facts: &Facts) -> u64 {
     }
 }
 
-/// Facts with one or two of their numbers changed.
+/// The slots of the facts that are any number: all but has-parent and the disk identifier.
+const NUMBERS: [usize; 10] = [3, 4, 5, 6, 10, 11, 12, 13, 14, 15];
+
+/// Facts with one or two of them changed.
 fn change(random: &mut Random, facts: &Facts) -> Facts {
-    let mut facts = *facts;
+    let mut slots = vhdx::slots_of(facts);
     for _ in 0..1 + random.below(2) {
         if random.one_in(8) {
-            facts.has_parent = !facts.has_parent;
-            continue;
+            slots[HAS_PARENT] ^= 1;
+        } else {
+            let slot = &mut slots[random.pick(&NUMBERS)];
+            *slot = interesting(random, *slot);
         }
-        let numbers = [
-            &mut facts.logical_sector_size,
-            &mut facts.physical_sector_size,
-            &mut facts.block_size,
-            &mut facts.disk_size,
-            &mut facts.bat.offset,
-            &mut facts.bat.length,
-            &mut facts.metadata.offset,
-            &mut facts.metadata.length,
-            &mut facts.locator.offset,
-            &mut facts.locator.length,
-        ];
-        let chosen = random.below(numbers.len() as u64) as usize;
-        let number = numbers.into_iter().nth(chosen).expect("one of them");
-        *number = interesting(random, *number);
     }
-    facts
+    vhdx::facts_in(&slots)
 }
 
 /// Asks for a key that is there, for parts of it, for none, and for any bytes of the locator.

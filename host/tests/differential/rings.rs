@@ -7,7 +7,7 @@ use shrunvaki_testkit::pending::{data, pattern, zero};
 use shrunvaki_testkit::random::Random;
 use shrunvaki_testkit::sample::M;
 
-const CASES: u64 = 4_000;
+const CASES: u64 = 3_000;
 const SECTORS: usize = MIB / SECTOR;
 
 /// An entry at a place that writes sectors of its own.

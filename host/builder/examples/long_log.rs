@@ -1,4 +1,4 @@
-//! Writes a VHDX file whose log takes long to apply, and prints what `tests/kill-apply` watches: the offset of the first sector
+//! Writes a VHDX file whose log takes long to apply, and prints what `host/tests/kill-apply` watches: the offset of the first sector
 //! that the log writes, that of the last one, and the file's length afterwards.
 //!
 //! The log zeros the same area again and again and puts other data into it now and then: more than a million sectors from a log
@@ -25,7 +25,7 @@ const FINAL_LENGTH: u64 = AREA + AREA_LENGTH + M;
 
 /// Log entries, each of which zeros the area so many times and then writes so many data sectors into it.
 const ROUNDS: u64 = 48;
-const PASSES: usize = 6;
+const PASSES: usize = 8;
 const DATA: u64 = 3;
 
 /// The log's entries, each with its first sector in the ring.
