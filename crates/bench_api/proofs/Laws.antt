@@ -5,20 +5,21 @@ use mathlib.Core.List.{List}
 use mathlib.Core.Option.{Option, none}
 use Prim.Native.Nat.{ℕ}
 use lib.ListN.{length, set, getElem?}
-use Rattle.vhdx_log.specs.Work.{Plan, Sector, sectorsPlanned, count, sectors}
-use Rattle.vhdx_log.specs.Cursor.{descriptorsLeft}
-use Rattle.vhdx_log.specs.Walk.{sectorsLeft, nextOf, walkFrom, Ready}
+use Rattle.vhdx_walk.specs.Entries.{Sector, sectors}
+use Rattle.vhdx_walk.specs.Cursor.{descriptorsLeft}
+use Rattle.vhdx_walk.specs.Walk.{sectorsLeft, nextOf, walkFrom, Ready}
+use Rattle.vhdx_walk.specs.declared.run.Source.{Source}
+use Rattle.vhdx_walk.specs.declared.run.Source.the-variants.{Zeros, Data}
+use Rattle.vhdx_walk.specs.declared.Walk.{Walk}
+use Rattle.vhdx_walk.specs.declared.SectorWrite.{SectorWrite}
+use Rattle.vhdx_walk.specs.declared.Next.{Next}
+use Rattle.vhdx_walk.specs.declared.Next.the-variants.{Sector as Here, End}
+use Rattle.vhdx_walk.proofs.Sectors.{left-from}
+use Rattle.vhdx_log.specs.Work.{Plan, sectorsPlanned, count}
 use Rattle.vhdx_log.specs.Answers.{planIn, countOf, ReadyIn}
 use Rattle.vhdx_log.specs.declared.Answer.{Answer}
 use Rattle.vhdx_log.specs.declared.Answer.the-variants.{Refused, Apply}
 use Rattle.vhdx_log.specs.declared.Work.{Work}
-use Rattle.vhdx_log.specs.declared.run.Source.{Source}
-use Rattle.vhdx_log.specs.declared.run.Source.the-variants.{Zeros, Data}
-use Rattle.vhdx_log.specs.declared.walk.Walk.{Walk}
-use Rattle.vhdx_log.specs.declared.walk.SectorWrite.{SectorWrite}
-use Rattle.vhdx_log.specs.declared.walk.Next.{Next}
-use Rattle.vhdx_log.specs.declared.walk.Next.the-variants.{Sector as Here, End}
-use Rattle.vhdx_log.proofs.Sectors.{left-from}
 use Rattle.bench_api.specs.Plans.{refusal, figuresIn, sourceKind, sourceIn, Answered}
 
 module _ (log : List ℕ) (p : Plan) (r : Answer) (same : planIn log r ≡ p) (counted : countOf r ≡ count p) (ready : ReadyIn log r) where

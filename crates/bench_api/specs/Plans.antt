@@ -6,12 +6,13 @@ use mathlib.Core.Option.{Option}
 use mathlib.Core.Path.{_≡_}
 use Prim.Native.Nat.{ℕ}
 use lib.ListN.{set}
-use Rattle.vhdx_log.specs.Work.{Plan, refused, apply, count, Sector}
-use Rattle.vhdx_log.specs.Walk.{nextOf}
-use Rattle.vhdx_log.specs.declared.run.Source.{Source}
-use Rattle.vhdx_log.specs.declared.run.Source.the-variants.{Zeros, Data}
-use Rattle.vhdx_log.specs.declared.walk.Next.{Next}
-use Rattle.vhdx_log.specs.declared.walk.Next.the-variants.{Sector as Here, End}
+use Rattle.vhdx_walk.specs.Entries.{Sector}
+use Rattle.vhdx_walk.specs.Walk.{nextOf}
+use Rattle.vhdx_walk.specs.declared.run.Source.{Source}
+use Rattle.vhdx_walk.specs.declared.run.Source.the-variants.{Zeros, Data}
+use Rattle.vhdx_walk.specs.declared.Next.{Next}
+use Rattle.vhdx_walk.specs.declared.Next.the-variants.{Sector as Here, End}
+use Rattle.vhdx_log.specs.Work.{Plan, refused, apply, count}
 
 abbrev pub refusal : Plan → ℕ
 refusal (refused c) = c

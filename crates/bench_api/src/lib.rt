@@ -3,9 +3,8 @@
 pub mod tables;
 
 use vhdx_log::Answer;
-use vhdx_log::run::Source;
-use vhdx_log::walk;
-use vhdx_log::walk::Next;
+use vhdx_walk::Next;
+use vhdx_walk::run::Source;
 ghost use mathlib.Core.Path.{_≡_};
 ghost use lib.ListN.{getElem?};
 ghost use Rattle.crc32c.specs.Crc.{crc};
@@ -55,7 +54,7 @@ pub extern "C" fn shrunvaki_bench_sector(
     match vhdx_log::plan(buffer, length) {
         Answer::Refused(_) => 0,
         Answer::Apply(work) => {
-            match walk::from(work.cursor).nth(vhdx_log::log(buffer, length), k) {
+            match vhdx_walk::from(work.cursor).nth(vhdx_log::log(buffer, length), k) {
                 Next::End => 0,
                 Next::Sector(sector) => {
                     answer[0] = sector.offset;

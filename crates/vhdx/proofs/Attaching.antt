@@ -14,10 +14,11 @@ use Rattle.vhdx_facts.specs.Ranges.{noFacts}
 use Rattle.vhdx_header.specs.Current.{firstMiB}
 use Rattle.vhdx_header.proofs.Laws.{accepted, read-again}
 use Rattle.vhdx_tables.specs.Tables.{tables, reading}
+use Rattle.vhdx_walk.specs.Entries.{Sector}
 use Rattle.vhdx_log.specs.declared.Answer.{Answer}
 use Rattle.vhdx_log.specs.declared.Answer.the-variants.{Refused, Apply}
 use Rattle.vhdx_log.specs.declared.Work.{Work}
-use Rattle.vhdx_log.specs.Work.{Sector, Plan, refused, apply, count}
+use Rattle.vhdx_log.specs.Work.{Plan, refused, apply, count}
 use Rattle.vhdx_log.specs.Plan.{plan}
 use Rattle.vhdx_log.specs.Answers.{logOf, planIn, countOf, ReadyIn, planOf}
 use Rattle.vhdx_replay.specs.Buffer.{put, zeroed}

@@ -14,7 +14,8 @@ use Rattle.vhdx_header.specs.declared.Header.{Header}
 use Rattle.vhdx_header.specs.declared.Answer.the-variants.{Current}
 use Rattle.vhdx_header.specs.Current.{currentHeader}
 use Rattle.vhdx_header.proofs.Laws.{accepted}
-use Rattle.vhdx_log.specs.Work.{Sector, Plan, refused, apply, sectorsPlanned}
+use Rattle.vhdx_walk.specs.Entries.{Sector}
+use Rattle.vhdx_log.specs.Work.{Plan, refused, apply, sectorsPlanned}
 use Rattle.vhdx_log.specs.Plan.{extentOf}
 use Rattle.vhdx_replay.specs.Steps.{File, Named, runs, steps, single}
 use Rattle.vhdx_replay.specs.Calls.{planOf, attach, step, Calls}

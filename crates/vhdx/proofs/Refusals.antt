@@ -22,8 +22,10 @@ use Rattle.vhdx_header.specs.Current.{vhdxfile, headerAt, currentOffset, readHe
 use Rattle.vhdx_header.proofs.Laws.{readAt, by-offset}
 use Rattle.vhdx_sequence.specs.declared.Sequence.{Sequence}
 use Rattle.vhdx_sequence.specs.Sequence.{activeSequence}
-use Rattle.vhdx_log.specs.Work.{Entries, head, allDescriptors, Sector, sectors, finalLength, someLies, Plan, refused, apply, lengthLimit, applyWithin, work}
-use Rattle.vhdx_log.specs.Plan.{entriesFrom, logBytes, extentOf, planSequence, planLog, planHeader, plan}
+use Rattle.vhdx_walk.specs.Entries.{Entries, head, allDescriptors, Sector, sectors, lengthLimit}
+use Rattle.vhdx_walk.specs.Bytes.{entriesFrom}
+use Rattle.vhdx_log.specs.Work.{finalLength, someLies, Plan, refused, apply, applyWithin, work}
+use Rattle.vhdx_log.specs.Plan.{logBytes, extentOf, planSequence, planLog, planHeader, plan}
 use Rattle.vhdx_replay.specs.Steps.{File}
 use Rattle.vhdx.specs.Refusals.{firstOf, finalOf, ofSome, isNone, headerIn, activeOf, entriesOf, row1, row2, row4, row5, row6, row7, row8, rows, firstRow, refusalOfPlan, ByTheTable}
 

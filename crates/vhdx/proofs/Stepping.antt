@@ -10,8 +10,9 @@ use lib.Dec.{leb}
 use lib.ListN.{take, getElem?}
 use Rattle.decision.specs.Refusal.{refused, answered, check, refusalOf}
 use Rattle.extent.specs.declared.Extent.{Extent}
+use Rattle.vhdx_walk.specs.Entries.{Sector}
 use Rattle.vhdx_log.specs.declared.Work.{Work}
-use Rattle.vhdx_log.specs.Work.{Sector, Plan, refused as unplanned, apply}
+use Rattle.vhdx_log.specs.Work.{Plan, refused as unplanned, apply}
 use Rattle.vhdx_log.specs.Plan.{plan}
 use Rattle.vhdx_replay.specs.Steps.{File, write, end, runs, steps, admitted, chosen, stepsOf, single}
 use Rattle.vhdx_replay.specs.Calls.{file}

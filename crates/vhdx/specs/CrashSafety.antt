@@ -15,7 +15,8 @@ use Prim.Native.Nat.{ℕ, _≤_, _<_}
 use lib.ListN.{length, take, getD}
 use Rattle.extent.specs.Extent.{part}
 use Rattle.vhdx_header.specs.Current.{firstMiB}
-use Rattle.vhdx_log.specs.Work.{Sector, Plan, refused, apply, sectorsPlanned}
+use Rattle.vhdx_walk.specs.Entries.{Sector}
+use Rattle.vhdx_log.specs.Work.{Plan, refused, apply, sectorsPlanned}
 use Rattle.vhdx_replay.specs.Steps.{File, Named}
 use Rattle.vhdx_replay.specs.Calls.{planOf, Call, Calls}
 use Rattle.vhdx_replay.specs.Planned.{logExtent}

@@ -15,8 +15,10 @@ use Rattle.vhdx_header.specs.Header.{fieldRules, insideRule, contents}
 use Rattle.vhdx_header.specs.Current.{vhdxfile, headerAt, currentOffset, firstMiB}
 use Rattle.vhdx_sequence.specs.declared.Sequence.{Sequence}
 use Rattle.vhdx_sequence.specs.Sequence.{activeSequence}
-use Rattle.vhdx_log.specs.Work.{Entries, head, allDescriptors, sectors, finalLength, someLies, Plan, refused, apply, lengthLimit}
-use Rattle.vhdx_log.specs.Plan.{entriesFrom, logBytes, extentOf}
+use Rattle.vhdx_walk.specs.Entries.{Entries, head, allDescriptors, sectors, lengthLimit}
+use Rattle.vhdx_walk.specs.Bytes.{entriesFrom}
+use Rattle.vhdx_log.specs.Work.{finalLength, someLies, Plan, refused, apply}
+use Rattle.vhdx_log.specs.Plan.{logBytes, extentOf}
 use Rattle.vhdx_replay.specs.Steps.{File}
 use Rattle.vhdx_replay.specs.Calls.{planOf}
 

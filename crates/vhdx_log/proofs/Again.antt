@@ -20,8 +20,10 @@ use Rattle.vhdx_header.specs.Current.{firstMiB, currentHeader}
 use Rattle.vhdx_header.proofs.Laws.{read-again}
 use Rattle.vhdx_sequence.specs.declared.Sequence.{Sequence}
 use Rattle.vhdx_sequence.specs.Sequence.{activeSequence}
-use Rattle.vhdx_log.specs.Work.{Entries, head, allDescriptors, Sector, sectors, finalLength, someLies, Plan, refused, apply, lengthLimit, applyWithin, work}
-use Rattle.vhdx_log.specs.Plan.{entriesFrom, logBytes, extentOf, planSequence, planLog, planHeader, plan}
+use Rattle.vhdx_walk.specs.Entries.{Entries, head, allDescriptors, Sector, sectors, lengthLimit}
+use Rattle.vhdx_walk.specs.Bytes.{entriesFrom}
+use Rattle.vhdx_log.specs.Work.{finalLength, someLies, Plan, refused, apply, applyWithin, work}
+use Rattle.vhdx_log.specs.Plan.{logBytes, extentOf, planSequence, planLog, planHeader, plan}
 
 -- a plan that is no refusal passed the test
 pub passed : (t : Bool) (c : ℕ) (p : Plan) {m : ℕ} {ss : List Sector} → check t (refused c) p ≡ apply m ss → (t ≡ true) × (p ≡ apply m ss)

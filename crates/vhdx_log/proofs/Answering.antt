@@ -20,16 +20,18 @@ use Rattle.vhdx_header.specs.declared.Answer.the-variants.{Refused as HeaderRef
 use Rattle.vhdx_header.specs.Current.{currentHeader}
 use Rattle.vhdx_header.proofs.Laws.{accepted}
 use Rattle.vhdx_sequence.specs.Sequence.{activeSequence}
+use Rattle.vhdx_walk.specs.Entries.{Descriptor, head, allDescriptors, sectors, furthest, lengthLimit}
+use Rattle.vhdx_walk.specs.Bytes.{entriesFrom}
+use Rattle.vhdx_walk.specs.Cursor.{descriptorsOn, AllReadable, Walkable}
+use Rattle.vhdx_walk.proofs.Chains.{chain-descriptors, first-placed, first-descriptors}
+use Rattle.vhdx_walk.proofs.Sectors.{from-ready}
 use Rattle.vhdx_log.specs.declared.survey.Survey.{Survey}
 use Rattle.vhdx_log.specs.declared.Answer.{Answer}
 use Rattle.vhdx_log.specs.declared.Answer.the-variants.{Refused, Apply}
-use Rattle.vhdx_log.specs.Work.{Descriptor, head, allDescriptors, sectors, furthest, someLies, Plan, refused, apply, count, lengthLimit, applyWithin, work}
-use Rattle.vhdx_log.specs.Plan.{entriesFrom, logBytes, planSequence, planLog, planHeader, plan}
-use Rattle.vhdx_log.specs.Cursor.{descriptorsOn, AllReadable, Walkable}
+use Rattle.vhdx_log.specs.Work.{someLies, Plan, refused, apply, count, applyWithin, work}
+use Rattle.vhdx_log.specs.Plan.{logBytes, planSequence, planLog, planHeader, plan}
 use Rattle.vhdx_log.specs.Survey.{capped, surveyOf}
 use Rattle.vhdx_log.specs.Answers.{logOf, planOf, countOf, ReadyIn, Stands}
-use Rattle.vhdx_log.proofs.Chains.{chain-descriptors, first-placed, first-descriptors}
-use Rattle.vhdx_log.proofs.Sectors.{from-ready}
 use Rattle.vhdx_log.proofs.Decisions.{refused-7, refused-8, applied, exact-count}
 
 pub refusal : (log : List ℕ) (c : ℕ) (p : Plan) → refused c ≡ p → Stands log (Refused c) p

@@ -11,9 +11,10 @@ use lib.Dec.{leb}
 use lib.ListN.{length, length-append}
 use borrow.Author.Tests.{leb-true, le-leb, lt-leb, eq-eqb, ne-eqb}
 use Rattle.extent.specs.declared.Extent.{Extent}
-use Rattle.vhdx_log.specs.Work.{Descriptor, writes, zeros, Entries, head, allDescriptors, zeroSector, sectorsOf, sectors, end, furthest, finalLength, someLies, refused, apply, lengthLimit, work}
+use Rattle.vhdx_walk.specs.Entries.{Descriptor, writes, zeros, Entries, head, allDescriptors, zeroSector, sectorsOf, sectors, end, furthest, lengthLimit}
+use Rattle.vhdx_walk.proofs.Runs.{length-sectors}
+use Rattle.vhdx_log.specs.Work.{finalLength, someLies, refused, apply, work}
 use Rattle.vhdx_log.specs.Survey.{capped}
-use Rattle.vhdx_log.proofs.Runs.{length-sectors}
 
 -- ---- the count
 

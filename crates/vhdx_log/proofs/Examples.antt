@@ -5,7 +5,8 @@ use mathlib.Core.List.{List, [], _∷_}
 use Prim.Native.Nat.{ℕ, _*_}
 use Rattle.decision.specs.Examples.{Example, R, Agree}
 use Rattle.extent.specs.Extent.{MiB}
-use Rattle.vhdx_log.specs.Work.{Descriptor, zeros, only, zeroSector, Plan, refused, apply, count, sectorsAt, work}
+use Rattle.vhdx_walk.specs.Entries.{Descriptor, zeros, only, zeroSector, sectorsAt}
+use Rattle.vhdx_log.specs.Work.{Plan, refused, apply, count, work}
 
 -- a plan in figures: the refusal's number or 0, the final length, the count
 figures : Plan → List ℕ

@@ -1,8 +1,4 @@
-pub mod Parts
-pub mod Moves
-pub mod Runs
-pub mod Chains
-pub mod Sectors
+pub mod Lies
 pub mod Surveys
 pub mod Decisions
 pub mod Answering

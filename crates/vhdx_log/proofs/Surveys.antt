@@ -9,12 +9,14 @@ use native.Mathlib.Omega.{arith}
 use lib.Dec.{eqb}
 use lib.ListN.{length, length-append}
 use Rattle.extent.specs.declared.Extent.{Extent}
-use Rattle.vhdx_log.specs.declared.run.Run.{Run}
+use Rattle.vhdx_walk.specs.declared.run.Run.{Run}
+use Rattle.vhdx_walk.specs.Entries.{Descriptor, sectorsOf, sectors, end, furthest}
+use Rattle.vhdx_walk.specs.Cursor.{bytesOf, descriptorIn, Proper}
+use Rattle.vhdx_walk.proofs.Runs.{run-sectors, run-end, run-whole, length-sectors}
 use Rattle.vhdx_log.specs.declared.survey.Survey.{Survey}
-use Rattle.vhdx_log.specs.Work.{Descriptor, sectorsOf, sectors, end, furthest, lies, someLies}
-use Rattle.vhdx_log.specs.Cursor.{bytesOf, descriptorIn, Proper}
+use Rattle.vhdx_log.specs.Work.{lies, someLies}
 use Rattle.vhdx_log.specs.Survey.{capped, surveyOf, added}
-use Rattle.vhdx_log.proofs.Runs.{run-sectors, run-end, run-whole, length-sectors, lies-whole, lies-append}
+use Rattle.vhdx_log.proofs.Lies.{lies-whole, lies-append}
 
 abbrev pub empty : Survey
 empty = record { lies = false; end = 0; count = 0 }

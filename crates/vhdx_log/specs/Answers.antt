@@ -6,12 +6,13 @@ use Prim.Native.Nat.{ℕ}
 use Rattle.vhdx_header.specs.declared.Answer.{Answer as HeaderAnswer}
 use Rattle.vhdx_header.specs.declared.Answer.the-variants.{Refused as HeaderRefused, Current}
 use Rattle.vhdx_header.specs.Current.{currentHeader}
+use Rattle.vhdx_walk.specs.Entries.{sectors}
+use Rattle.vhdx_walk.specs.Cursor.{descriptorsLeft}
+use Rattle.vhdx_walk.specs.Walk.{walkFrom, Ready}
 use Rattle.vhdx_log.specs.declared.Answer.{Answer}
 use Rattle.vhdx_log.specs.declared.Answer.the-variants.{Refused, Apply}
-use Rattle.vhdx_log.specs.Work.{sectors, Plan, refused, apply, count}
+use Rattle.vhdx_log.specs.Work.{Plan, refused, apply, count}
 use Rattle.vhdx_log.specs.Plan.{logBytes}
-use Rattle.vhdx_log.specs.Cursor.{descriptorsLeft}
-use Rattle.vhdx_log.specs.Walk.{walkFrom, Ready}
 
 -- the log's bytes in a buffer: where the current header says, none without one
 abbrev pub logBy : HeaderAnswer → List ℕ → List ℕ

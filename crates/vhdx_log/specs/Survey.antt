@@ -7,8 +7,9 @@ use lib.Dec.{eqb}
 use lib.ListN.{length}
 use Rattle.extent.specs.declared.Extent.{Extent}
 use Rattle.vhdx_entry.specs.Ring.{sectorSize}
+use Rattle.vhdx_walk.specs.Entries.{Descriptor, sectors, furthest}
 use Rattle.vhdx_log.specs.declared.survey.Survey.{Survey}
-use Rattle.vhdx_log.specs.Work.{Descriptor, sectors, furthest, lies, someLies}
+use Rattle.vhdx_log.specs.Work.{lies, someLies}
 
 abbrev pub capped : ℕ → ℕ
 capped n = min n 18446744073709551615

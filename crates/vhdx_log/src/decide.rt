@@ -1,23 +1,24 @@
 // What a found sequence asks for, or its refusal: 6 to 8 in this order, each decided over the whole sequence.
 use crate::Answer;
 use crate::Work;
-use crate::cursor::Cursor;
-use crate::entry;
 use crate::number;
 use crate::survey;
 use vhdx_entry::header;
 use vhdx_entry::ring;
 use vhdx_entry::ring::RingPos;
 use vhdx_sequence::Sequence;
+use vhdx_walk::cursor::Cursor;
+use vhdx_walk::entry;
 ghost use mathlib.Core.Bool.{_&&_};
 ghost use mathlib.Core.List.{List, []};
 ghost use mathlib.Core.Path.{_≡_};
 ghost use Prim.Native.Nat.{ℕ};
 ghost use lib.Dec.{leb};
 ghost use lib.ListN.{length as lengthOf};
-ghost use Rattle.vhdx_log.specs.Work.{work, applyWithin, lengthLimit};
-ghost use Rattle.vhdx_log.specs.Plan.{entriesFrom};
-ghost use Rattle.vhdx_log.specs.Cursor.{Walkable};
+ghost use Rattle.vhdx_walk.specs.Entries.{lengthLimit};
+ghost use Rattle.vhdx_walk.specs.Bytes.{entriesFrom};
+ghost use Rattle.vhdx_walk.specs.Cursor.{Walkable};
+ghost use Rattle.vhdx_log.specs.Work.{work, applyWithin};
 ghost use Rattle.vhdx_log.specs.Answers.{Stands};
 
 // 128 TiB

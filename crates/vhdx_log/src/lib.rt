@@ -1,16 +1,11 @@
 // The log's work, planned before anything is written, or the refusal: document 01's 1 to 8.
-// Its modules: `run`, a descriptor's sectors; `entry`, from an entry to the next and to the head; `cursor`, the walk over a
-// sequence's descriptors; `walk`, over its sectors; `survey`, what the descriptors say together; `decide`, refusals 6 to 8; `number`, sums and maxima.
-pub mod cursor;
+// Its modules: `survey`, what a sequence's descriptors say together; `decide`, refusals 6 to 8; `number`, sums and maxima.
 mod decide;
-mod entry;
 mod number;
-pub mod run;
 mod survey;
-pub mod walk;
 
-use cursor::Cursor;
 use vhdx_sequence::Found;
+use vhdx_walk::cursor::Cursor;
 ghost use mathlib.Core.Path.{_≡_};
 ghost use Prim.Native.Nat.{_*_, _%_, _≤_};
 ghost use lib.ListN.{length as lengthOf};

@@ -1,11 +1,11 @@
 // What a sequence's descriptors say together: what refusals 7 and 8 and the count are decided by. All of them are looked at
 // before anything is decided.
-use crate::cursor::Cursor;
-use crate::cursor::Move;
 use crate::number;
-use crate::run::Run;
+use vhdx_walk::cursor::Cursor;
+use vhdx_walk::cursor::Move;
+use vhdx_walk::run::Run;
 ghost use mathlib.Core.Path.{_≡_};
-ghost use Rattle.vhdx_log.specs.Cursor.{descriptorsLeft, Placed};
+ghost use Rattle.vhdx_walk.specs.Cursor.{descriptorsLeft, Placed};
 ghost use Rattle.vhdx_log.specs.Survey.{surveyOf, added};
 
 // An end or a count above 2^64 - 1 stands as 2^64 - 1.

@@ -16,15 +16,16 @@ use Rattle.vhdx_header.specs.declared.Answer.the-variants.{Current}
 use Rattle.vhdx_header.specs.Current.{currentHeader}
 use Rattle.vhdx_header.proofs.Laws.{accepted}
 use Rattle.vhdx_entry.specs.Ring.{sectorSize}
+use Rattle.vhdx_walk.specs.declared.Walk.{Walk}
+use Rattle.vhdx_walk.specs.Entries.{Sector, sectors}
+use Rattle.vhdx_walk.specs.Cursor.{descriptorsLeft}
+use Rattle.vhdx_walk.specs.Walk.{sectorsLeft, walkFrom, Ready, Settled}
+use Rattle.vhdx_walk.proofs.Sectors.{left-from}
 use Rattle.vhdx_log.specs.declared.Work.{Work}
-use Rattle.vhdx_log.specs.declared.walk.Walk.{Walk}
-use Rattle.vhdx_log.specs.Work.{Sector, sectors, lies, someLies, Plan, apply, count}
+use Rattle.vhdx_log.specs.Work.{lies, someLies, Plan, apply, count}
 use Rattle.vhdx_log.specs.Plan.{logBytes, extentOf, plan}
-use Rattle.vhdx_log.specs.Cursor.{descriptorsLeft}
-use Rattle.vhdx_log.specs.Walk.{sectorsLeft, walkFrom, Ready, Settled}
 use Rattle.vhdx_log.specs.Answers.{logOf}
 use Rattle.vhdx_log.proofs.Answering.{log-is}
-use Rattle.vhdx_log.proofs.Sectors.{left-from}
 use Rattle.vhdx_replay.specs.Buffer.{zeroed}
 use Rattle.vhdx_replay.specs.Steps.{File, Step, write, run, runs, steps}
 use Rattle.vhdx_replay.specs.Calls.{file}

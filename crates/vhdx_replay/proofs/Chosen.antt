@@ -13,16 +13,17 @@ use borrow.Author.Tests.{leb-true}
 use Rattle.decision.specs.Refusal.{Outcome, refused, answered, check, refusalOf}
 use Rattle.extent.specs.declared.Extent.{Extent}
 use Rattle.extent.specs.Extent.{part}
+use Rattle.vhdx_walk.specs.declared.Walk.{Walk}
+use Rattle.vhdx_walk.specs.declared.SectorWrite.{SectorWrite}
+use Rattle.vhdx_walk.specs.declared.Next.{Next}
+use Rattle.vhdx_walk.specs.declared.Next.the-variants.{Sector as Here, End}
+use Rattle.vhdx_walk.specs.Entries.{Sector}
+use Rattle.vhdx_walk.specs.Cursor.{bytesOf, Held}
+use Rattle.vhdx_walk.specs.Walk.{sectorsLeft, walkFrom, sectorOf, nextOf, HeldNext, Ready}
+use Rattle.vhdx_walk.proofs.Sectors.{left-from}
 use Rattle.vhdx_log.specs.declared.Work.{Work}
-use Rattle.vhdx_log.specs.declared.walk.Walk.{Walk}
-use Rattle.vhdx_log.specs.declared.walk.SectorWrite.{SectorWrite}
-use Rattle.vhdx_log.specs.declared.walk.Next.{Next}
-use Rattle.vhdx_log.specs.declared.walk.Next.the-variants.{Sector as Here, End}
-use Rattle.vhdx_log.specs.Work.{Sector, Plan, apply}
+use Rattle.vhdx_log.specs.Work.{Plan, apply}
 use Rattle.vhdx_log.specs.Plan.{plan}
-use Rattle.vhdx_log.specs.Cursor.{bytesOf, Held}
-use Rattle.vhdx_log.specs.Walk.{sectorsLeft, walkFrom, sectorOf, nextOf, HeldNext, Ready}
-use Rattle.vhdx_log.proofs.Sectors.{left-from}
 use Rattle.vhdx_replay.specs.Buffer.{put}
 use Rattle.vhdx_replay.specs.Steps.{Step, write, runs, admitted, chosen, stepsOf, single}
 use Rattle.vhdx_replay.specs.Calls.{file}

@@ -6,7 +6,7 @@ use Prim.Native.Nat.{ℕ, _+_, _-_, _≤_}
 use native.Mathlib.Omega.{arith}
 use lib.ListN.{length, take, drop}
 use Rattle.vhdx_entry.specs.Entry.{leadingBytes, trailingBytes}
-use Rattle.vhdx_log.specs.Plan.{sectorBytes}
+use Rattle.vhdx_walk.specs.Bytes.{sectorBytes}
 use Rattle.vhdx_replay.specs.Buffer.{put}
 use Rattle.vhdx_replay.proofs.Bytes.{part-long}
 use Rattle.vhdx_replay.proofs.Assembled.{assembled, inner-part}

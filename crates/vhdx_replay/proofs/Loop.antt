@@ -10,9 +10,9 @@ use lib.Seq.{take-nil}
 use Rattle.extent.specs.declared.Extent.{Extent}
 use Rattle.extent.specs.Extent.{shares, part}
 use Rattle.extent.proofs.Laws.{share}
-use Rattle.vhdx_log.specs.Work.{Sector}
-use Rattle.vhdx_log.specs.Walk.{sectorsLeft, Ready, Settled}
-use Rattle.vhdx_log.specs.declared.walk.Walk.{Walk}
+use Rattle.vhdx_walk.specs.Entries.{Sector}
+use Rattle.vhdx_walk.specs.Walk.{sectorsLeft, Ready, Settled}
+use Rattle.vhdx_walk.specs.declared.Walk.{Walk}
 use Rattle.vhdx_replay.specs.Buffer.{put}
 use Rattle.vhdx_replay.specs.Writes.{firstFits, firstWritten, allWritten, Safe, Writable}
 use Rattle.vhdx_replay.proofs.Bytes.{put-length, put-out}

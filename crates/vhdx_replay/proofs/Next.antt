@@ -6,13 +6,13 @@ use mathlib.Core.Option.{none, some}
 use Prim.Native.Nat.{ℕ, _+_, _≤_}
 use native.Mathlib.Omega.{arith}
 use lib.ListN.{drop, getElem?}
-use Rattle.vhdx_log.specs.Work.{Sector}
-use Rattle.vhdx_log.specs.Cursor.{bytesOf, Held}
-use Rattle.vhdx_log.specs.Walk.{sectorsLeft, sectorOf, nextOf, HeldNext}
-use Rattle.vhdx_log.specs.declared.walk.Walk.{Walk}
-use Rattle.vhdx_log.specs.declared.walk.SectorWrite.{SectorWrite}
-use Rattle.vhdx_log.specs.declared.walk.Next.{Next}
-use Rattle.vhdx_log.specs.declared.walk.Next.the-variants.{Sector as Here, End}
+use Rattle.vhdx_walk.specs.Entries.{Sector}
+use Rattle.vhdx_walk.specs.Cursor.{bytesOf, Held}
+use Rattle.vhdx_walk.specs.Walk.{sectorsLeft, sectorOf, nextOf, HeldNext}
+use Rattle.vhdx_walk.specs.declared.Walk.{Walk}
+use Rattle.vhdx_walk.specs.declared.SectorWrite.{SectorWrite}
+use Rattle.vhdx_walk.specs.declared.Next.{Next}
+use Rattle.vhdx_walk.specs.declared.Next.the-variants.{Sector as Here, End}
 use Rattle.vhdx_replay.specs.Buffer.{put}
 use Rattle.vhdx_replay.specs.Writes.{firstFits, firstWritten}
 

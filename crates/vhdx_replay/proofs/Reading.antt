@@ -24,9 +24,11 @@ use Rattle.vhdx_header.proofs.Laws.{accepted}
 use Rattle.vhdx_sequence.specs.declared.Sequence.{Sequence}
 use Rattle.vhdx_sequence.specs.Sequence.{activeSequence}
 use Rattle.vhdx_sequence.proofs.Laws.{found}
-use Rattle.vhdx_log.specs.Work.{Entries, head, allDescriptors, furthest, finalLength, Sector, sectors, someLies, refused, apply, lengthLimit, applyWithin, work}
-use Rattle.vhdx_log.specs.Plan.{entriesFrom, logBytes, extentOf, planSequence, planLog, planHeader, plan}
-use Rattle.vhdx_log.proofs.Chains.{linked-readable}
+use Rattle.vhdx_walk.specs.Entries.{Entries, head, allDescriptors, furthest, Sector, sectors, lengthLimit}
+use Rattle.vhdx_walk.specs.Bytes.{entriesFrom}
+use Rattle.vhdx_walk.proofs.Chains.{linked-readable}
+use Rattle.vhdx_log.specs.Work.{finalLength, someLies, refused, apply, applyWithin, work}
+use Rattle.vhdx_log.specs.Plan.{logBytes, extentOf, planSequence, planLog, planHeader, plan}
 use Rattle.vhdx_log.proofs.Answering.{plan-refused, log-placed}
 use Rattle.vhdx_log.proofs.Again.{passed, plan-again}
 use Rattle.vhdx_replay.specs.Steps.{File}

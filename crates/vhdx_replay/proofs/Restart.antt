@@ -11,7 +11,8 @@ use lib.ListN.{length, take, getD, getElem?}
 use lib.Dec.{leb}
 use lib.Seq.{length-take-le, getD-take, ext-getD}
 use Rattle.decision.specs.Refusal.{refused, answered, check}
-use Rattle.vhdx_log.specs.Work.{Sector, apply}
+use Rattle.vhdx_walk.specs.Entries.{Sector}
+use Rattle.vhdx_log.specs.Work.{apply}
 use Rattle.vhdx_replay.specs.Steps.{File, end, In, Named, Step, grow, write, run, runs, Torn, Ran, stop, torn, next, steps, admitted, stepsOf}
 use Rattle.vhdx_replay.specs.Calls.{planOf, Call, attach, step, Calls, then}
 use Rattle.vhdx_replay.specs.Calls

@@ -17,10 +17,11 @@ use Rattle.extent.proofs.Laws.{share}
 use Rattle.vhdx_entry.specs.Ring.{sectorSize, ring, sectorAt}
 use Rattle.vhdx_entry.specs.Entry.{descriptorCount, descriptorStart, descriptor, isData, dataBefore, dataCount, dataSector, descriptorSectors, leadingBytes, trailingBytes, fileOffset, zeroLength}
 use Rattle.vhdx_entry.specs.Entry.{behind}
-use Rattle.vhdx_log.specs.Work.{Descriptor, writes, zeros, allDescriptors, Sector, sectorsAt, zeroSector, sectors, furthest, lies, someLies}
-use Rattle.vhdx_log.specs.Plan.{sectorBytes, descriptorOf, descriptorsFrom, entriesFrom}
-use Rattle.vhdx_log.specs.Cursor.{Readable, AllReadable}
-use Rattle.vhdx_log.proofs.Parts.{data-rank, size-fits, descriptors-fit}
+use Rattle.vhdx_walk.specs.Entries.{Descriptor, writes, zeros, allDescriptors, Sector, sectorsAt, zeroSector, sectors, furthest}
+use Rattle.vhdx_walk.specs.Bytes.{sectorBytes, descriptorOf, descriptorsFrom, entriesFrom}
+use Rattle.vhdx_walk.specs.Cursor.{Readable, AllReadable}
+use Rattle.vhdx_walk.proofs.Parts.{data-rank, size-fits, descriptors-fit}
+use Rattle.vhdx_log.specs.Work.{lies, someLies}
 use Rattle.vhdx_replay.specs.Steps.{end, In, Named}
 use Rattle.vhdx_replay.proofs.Bytes.{part-long}
 use Rattle.vhdx_replay.proofs.Every.{All, all-append}

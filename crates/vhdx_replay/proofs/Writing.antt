@@ -5,11 +5,11 @@ use mathlib.Core.List.{List}
 use Prim.Native.Nat.{ℕ, _+_, _-_, _≤_}
 use native.Mathlib.Omega.{arith}
 use lib.ListN.{length, take, drop, replicate}
-use Rattle.vhdx_log.specs.Work.{zeroSector}
-use Rattle.vhdx_log.specs.Plan.{sectorBytes}
-use Rattle.vhdx_log.specs.Cursor.{bytesOf, Held}
-use Rattle.vhdx_log.specs.declared.run.Source.{Source}
-use Rattle.vhdx_log.specs.declared.run.Source.the-variants.{Zeros, Data}
+use Rattle.vhdx_walk.specs.Entries.{zeroSector}
+use Rattle.vhdx_walk.specs.Bytes.{sectorBytes}
+use Rattle.vhdx_walk.specs.Cursor.{bytesOf, Held}
+use Rattle.vhdx_walk.specs.declared.run.Source.{Source}
+use Rattle.vhdx_walk.specs.declared.run.Source.the-variants.{Zeros, Data}
 use Rattle.vhdx_replay.specs.Buffer.{put, zeroed}
 
 pub zeros-written : (b log : List ℕ) (at : ℕ) (source : Source) → source ≡ Zeros → zeroed b at (at + 4096) ≡ put b at (bytesOf log source)

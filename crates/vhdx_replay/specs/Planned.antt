@@ -8,11 +8,11 @@ use Rattle.extent.specs.Extent.{nowhere}
 use Rattle.vhdx_header.specs.declared.Answer.{Answer as HeaderAnswer}
 use Rattle.vhdx_header.specs.declared.Answer.the-variants.{Refused as HeaderRefused, Current}
 use Rattle.vhdx_header.specs.Current.{currentHeader}
+use Rattle.vhdx_walk.specs.Walk.{walkFrom, Ready}
 use Rattle.vhdx_log.specs.declared.Answer.the-variants.{Apply}
 use Rattle.vhdx_log.specs.declared.Work.{Work}
 use Rattle.vhdx_log.specs.Work.{count}
 use Rattle.vhdx_log.specs.Plan.{extentOf, plan}
-use Rattle.vhdx_log.specs.Walk.{walkFrom, Ready}
 use Rattle.vhdx_log.specs.Answers.{logOf, planOf}
 
 -- where a header says that the log is; nowhere without one

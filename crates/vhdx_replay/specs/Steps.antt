@@ -8,7 +8,8 @@ use Prim.Native.Nat.{ℕ, _+_, _≤_, _<_}
 use lib.Dec.{leb}
 use lib.ListN.{length, getD, getElem?}
 use Rattle.decision.specs.Refusal.{Outcome, refused, answered, check}
-use Rattle.vhdx_log.specs.Work.{Sector, Plan, refused as unplanned, apply}
+use Rattle.vhdx_walk.specs.Entries.{Sector}
+use Rattle.vhdx_log.specs.Work.{Plan, refused as unplanned, apply}
 use Rattle.vhdx_replay.specs.Buffer.{put, zeroed}
 
 -- a file in a buffer: the buffer's first `size` bytes

@@ -7,9 +7,9 @@ use Prim.Native.Nat.{ℕ, _+_, _≤_}
 use lib.ListN.{length}
 use Rattle.extent.specs.declared.Extent.{Extent}
 use Rattle.extent.specs.Extent.{shares, part}
-use Rattle.vhdx_log.specs.Work.{Sector}
-use Rattle.vhdx_log.specs.Walk.{sectorsLeft, Ready, Settled}
-use Rattle.vhdx_log.specs.declared.walk.Walk.{Walk}
+use Rattle.vhdx_walk.specs.Entries.{Sector}
+use Rattle.vhdx_walk.specs.Walk.{sectorsLeft, Ready, Settled}
+use Rattle.vhdx_walk.specs.declared.Walk.{Walk}
 use Rattle.vhdx_replay.specs.Buffer.{put}
 
 -- the first of some sectors, if there is one: it ends inside the buffer; and the buffer with it written

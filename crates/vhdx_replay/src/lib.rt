@@ -6,16 +6,15 @@ mod store;
 
 use extent::Extent;
 use vhdx_log::Work;
-use vhdx_log::walk;
-use vhdx_log::walk::Next;
-use vhdx_log::walk::Walk;
+use vhdx_walk::Next;
+use vhdx_walk::Walk;
 ghost use mathlib.Core.Path.{_≡_};
 ghost use Prim.Native.Nat.{_+_, _≤_};
 ghost use lib.ListN.{length as lengthOf, take, drop};
 ghost use Rattle.extent.specs.Extent.{part as partOf};
 ghost use Rattle.decision.specs.Refusal.{refusalOf};
+ghost use Rattle.vhdx_walk.specs.Walk.{sectorsLeft, Ready, Settled};
 ghost use Rattle.vhdx_log.specs.Plan.{plan};
-ghost use Rattle.vhdx_log.specs.Walk.{sectorsLeft, Ready, Settled};
 ghost use Rattle.vhdx_replay.specs.Buffer.{zeroed};
 ghost use Rattle.vhdx_replay.specs.Steps.{steps, runs, chosen, single};
 ghost use Rattle.vhdx_replay.specs.Calls.{file};
@@ -49,7 +48,7 @@ pub fn first_steps(buffer: &mut [u8], length: u64, log: Extent, work: Work, coun
     ensures { λ _. ⌜ now (buffer .exit) ≡ runs (take (count + 1) (steps (plan (now (buffer .entry)) length))) (file (now (buffer .entry)) length) .buffer ⌝ }
 {
     grow(buffer, length, work.length);
-    let start = walk::from(work.cursor).forward(extent::part(buffer, log), 0);
+    let start = vhdx_walk::from(work.cursor).forward(extent::part(buffer, log), 0);
     write_sectors(buffer, log, start, count);
 }
 
@@ -59,7 +58,7 @@ pub fn one_sector(buffer: &mut [u8], length: u64, log: Extent, work: Work, i: u6
     ensures { λ r. ⌜ r ≡ refusalOf (chosen (plan (now (buffer .entry)) length) (i + 1) length) ⌝ }
     ensures { λ r. ⌜ now (buffer .exit) ≡ runs (single (plan (now (buffer .entry)) length) (i + 1) length) (file (now (buffer .entry)) length) .buffer ⌝ }
 {
-    match walk::from(work.cursor).nth(extent::part(buffer, log), i) {
+    match vhdx_walk::from(work.cursor).nth(extent::part(buffer, log), i) {
         Next::End => 21,
         Next::Sector(s) => {
             if extent::is_inside(s.offset, 4096, length) {

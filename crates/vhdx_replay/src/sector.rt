@@ -1,14 +1,14 @@
 // The write of one sector of 4,096 bytes. It stores inside the sector alone, so that a torn write leaves all else as it was.
 use crate::store;
 use extent::Extent;
-use vhdx_log::run::Source;
-use vhdx_log::walk::SectorWrite;
+use vhdx_walk::SectorWrite;
+use vhdx_walk::run::Source;
 ghost use mathlib.Core.Path.{_≡_};
 ghost use Prim.Native.Nat.{_+_, _≤_};
 ghost use lib.ListN.{length as lengthOf, take, drop};
 ghost use Rattle.extent.specs.Extent.{part as partOf};
-ghost use Rattle.vhdx_log.specs.Plan.{sectorBytes};
-ghost use Rattle.vhdx_log.specs.Cursor.{bytesOf, Held};
+ghost use Rattle.vhdx_walk.specs.Bytes.{sectorBytes};
+ghost use Rattle.vhdx_walk.specs.Cursor.{bytesOf, Held};
 ghost use Rattle.vhdx_replay.specs.Buffer.{put};
 
 // An array for a sector. What is in it does not matter.

@@ -4,10 +4,10 @@ use mathlib.Core.Path.{_≡_, refl, sym, subst}
 use mathlib.Core.List.{List}
 use Prim.Native.Nat.{ℕ}
 use lib.ListN.{getElem?}
+use Rattle.vhdx_walk.specs.Walk.{nextOf, sectorsLeft, Ready}
+use Rattle.vhdx_walk.specs.declared.Next.the-variants.{End}
 use Rattle.vhdx_log.specs.Plan.{plan}
-use Rattle.vhdx_log.specs.Walk.{nextOf, sectorsLeft, Ready}
 use Rattle.vhdx_log.specs.Answers.{logOf}
-use Rattle.vhdx_log.specs.declared.walk.Next.the-variants.{End}
 use Rattle.bench_api.proofs.Laws.{refused-sectors, applied-ready, applied-sectors, no-sector, zero-sector, data-sector}
 use borrow.Author.Needs.{needs}
 use Rattle.bench_api.proofs.shrunvaki_bench_sector.Statement.{statement}

@@ -8,9 +8,9 @@ use Rattle.extent.specs.declared.Extent.{Extent}
 use Rattle.vhdx_sequence.specs.declared.Sequence.{Sequence}
 use Rattle.vhdx_sequence.specs.Sequence.{sequenceOf, activeSequence}
 use Rattle.vhdx_sequence.proofs.Laws.{found}
+use Rattle.vhdx_walk.proofs.Chains.{walkable}
 use Rattle.vhdx_log.specs.Plan.{planSequence}
 use Rattle.vhdx_log.specs.Answers.{Stands}
-use Rattle.vhdx_log.proofs.Chains.{walkable}
 use Rattle.vhdx_log.proofs.Answering.{refusal}
 use borrow.Author.Needs.{needs}
 use Rattle.vhdx_log.proofs.with_log.Statement.{statement}

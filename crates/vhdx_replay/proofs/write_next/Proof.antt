@@ -5,7 +5,7 @@ use mathlib.Core.List.{List}
 use Prim.Native.Nat.{ℕ}
 use lib.ListN.{length, drop}
 use Rattle.extent.specs.Extent.{part}
-use Rattle.vhdx_log.specs.Walk.{sectorsLeft, Ready, Settled}
+use Rattle.vhdx_walk.specs.Walk.{sectorsLeft, Ready, Settled}
 use Rattle.vhdx_replay.proofs.Next.{fits, written, held, unchanged, past}
 use borrow.Author.Needs.{needs}
 use Rattle.vhdx_replay.proofs.write_next.Statement.{statement}

@@ -5,9 +5,9 @@ use Prim.Native.Nat.{max}
 use native.Mathlib.Omega.{arith}
 use lib.ListN.{length}
 use Rattle.extent.specs.declared.Extent.{Extent}
+use Rattle.vhdx_walk.specs.Bytes.{entriesFrom}
+use Rattle.vhdx_walk.proofs.Chains.{head-says, on-first, more-readable, first-placed}
 use Rattle.vhdx_log.specs.Work.{work}
-use Rattle.vhdx_log.specs.Plan.{entriesFrom}
-use Rattle.vhdx_log.proofs.Chains.{head-says, on-first, more-readable, first-placed}
 use Rattle.vhdx_log.proofs.Decisions.{refused-6}
 use Rattle.vhdx_log.proofs.Answering.{refusal, lies-inside, too-long, applies}
 use borrow.Author.Needs.{needs}

@@ -6,7 +6,7 @@ use Prim.Native.Nat.{_+_}
 use native.Mathlib.Omega.{arith}
 use lib.ListN.{length}
 use Rattle.extent.specs.declared.Extent.{Extent}
-use Rattle.vhdx_log.specs.Cursor.{descriptorsLeft, Placed, Onward}
+use Rattle.vhdx_walk.specs.Cursor.{descriptorsLeft, Placed, Onward}
 use Rattle.vhdx_log.proofs.Surveys.{surveyFrom, survey-onward, surveyed}
 use borrow.Author.Needs.{needs}
 use Rattle.vhdx_log.proofs.survey.all.Statement.{statement}

@@ -1,0 +1,5 @@
+pub mod Parts
+pub mod Moves
+pub mod Runs
+pub mod Chains
+pub mod Sectors

@@ -1,0 +1,4 @@
+pub mod Entries
+pub mod Bytes
+pub mod Cursor
+pub mod Walk
