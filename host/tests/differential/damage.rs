@@ -208,5 +208,6 @@ fn damaged_files() {
     pair.tally.print("damaged files");
     if all {
         pair.tally.assert_reached(0..=22, CASES / 200);
+        pair.tally.assert_found(CASES / 2);
     }
 }

@@ -150,7 +150,7 @@ fn interrupted_lists_of_calls() {
         memory = Some((original.image, original.applied));
     });
     pair.tally.print("interrupted lists");
-    println!("{met:?}");
+    println!("  {met:?}");
     if all {
         let least = met.growths.min(met.writes).min(met.attaches);
         assert!(least >= LISTS / 4, "{met:?}");

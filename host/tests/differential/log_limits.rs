@@ -1,6 +1,6 @@
 //! Limits of the length, the header, the log and its work: one below, at, and one above.
 use crate::pair::Pair;
-use shrunvaki_testkit::image::{Entry, Image, GUID, MIB, SECTOR};
+use shrunvaki_testkit::image::{seal, Entry, Image, GUID, HEADERS, MIB, SECTOR};
 use shrunvaki_testkit::pending::{data, pattern, zero};
 use shrunvaki_testkit::sample::{M, TIB};
 
@@ -22,6 +22,57 @@ fn lengths() {
         let mut image = Image::new(MIB + 1, M, 0, [0; 16]);
         image.length = length;
         of(&mut pair, &image, refusal, &format!("length {length}"));
+    }
+}
+
+#[test]
+fn which_header_is_current() {
+    let mut pair = Pair::default();
+    let top = u64::MAX;
+    // the first header has a log with one sector to write, the second has none
+    for (numbers, count) in [
+        ([1, 0], 1),
+        ([0, 1], 0),
+        ([top, top - 1], 1),
+        ([1, top], 0),
+        ([1 << 32, 7], 1),
+        ([7, 1 << 32], 0),
+    ] {
+        let mut image = Image::small();
+        image
+            .header(HEADERS[0], numbers[0], GUID)
+            .header(HEADERS[1], numbers[1], [0; 16])
+            .entry(0, &Entry::new(1, 0).with(zero(2 * M, 4096)));
+        let answer = pair.answers(&image, APPLIED, &format!("{numbers:?}"));
+        assert_eq!(answer.count, count, "{numbers:?}");
+        // the other one is not looked at, and counts where this one is spoilt
+        for (spoilt, count) in [(0, 0), (1, 1)] {
+            let mut one = image.clone();
+            one.buffer[HEADERS[spoilt] + 100] ^= 1;
+            let answer = pair.answers(&one, APPLIED, "one is left");
+            assert_eq!(answer.count, count, "{numbers:?} without {spoilt}");
+        }
+    }
+    for number in [0, 1, top] {
+        let mut image = Image::small();
+        for at in HEADERS {
+            image.header(at, number, GUID);
+        }
+        of(&mut pair, &image, 3, "equal numbers");
+    }
+}
+
+#[test]
+fn log_versions() {
+    let mut pair = Pair::default();
+    for (id, refusals) in [([0; 16], [9, 9, 9]), (GUID, [5, 4, 4])] {
+        for (version, refusal) in [0u16, 1, 256].into_iter().zip(refusals) {
+            let mut image = Image::new(4 * MIB, 3 * M, MIB, id);
+            let header = &mut image.buffer[HEADERS[0]..HEADERS[0] + SECTOR];
+            header[64..66].copy_from_slice(&version.to_le_bytes());
+            seal(header);
+            of(&mut pair, &image, refusal, &format!("LogVersion {version}"));
+        }
     }
 }
 
@@ -165,6 +216,10 @@ fn a_log_behind_what_it_writes() {
         (2 * M - 4096, 8192, 7),
         (3 * M, 4096, APPLIED),
         (3 * M - 4096, 8192, 7),
+        // to 2^64, and past it
+        (M, 0u64.wrapping_sub(M), 7),
+        (M, u64::MAX - 4095, 7),
+        (3 * M, u64::MAX - 4095, 8),
     ] {
         let mut image = Image::with_log_at(2 * MIB, 3 * MIB + SECTOR, 3 * M, MIB, GUID);
         image.entry(255, &Entry::new(1, 255).with(zero(offset, length)));

@@ -29,6 +29,7 @@ impl Pair {
             copy.extend_from_slice(buffer);
         }
         (self.capacity, self.length) = (capacity as usize, length);
+        self.tally.files += 1;
     }
 
     /// The buffer that calls are given.
@@ -92,10 +93,7 @@ impl Pair {
         let answer = vhdx::lookup(facts, &self.proved[..self.capacity], self.length, sector);
         let expected = model::lookup(facts, self.buffer(), self.length, sector);
         assert_eq!(answer, expected, "sector {sector} of {facts:?}");
-        self.tally.add(match answer {
-            Lookup::Refused(number) => number,
-            _ => 0,
-        });
+        self.tally.add_place(answer);
         answer
     }
 
@@ -104,6 +102,7 @@ impl Pair {
         let answer = vhdx::parent_key(facts, &self.proved[..self.capacity], self.length, key);
         let expected = model::parent_key(facts, self.buffer(), self.length, key);
         assert_eq!(answer, expected, "key {key:?} of {facts:?}");
+        self.tally.add_value(answer);
         answer
     }
 }

@@ -6,13 +6,14 @@ use shrunvaki_testkit::tables::{
     locator, Disk, Item, Region, BAT, DISK_SIZE, FILE_PARAMETERS, IS_REQUIRED, IS_USER, LOCATOR,
     LOGICAL, PHYSICAL,
 };
+use shrunvaki_testkit::vhdx::{Attachment, Lookup};
 
 /// Attaches a disk without a log.
 #[track_caller]
-fn of(pair: &mut Pair, disk: &Disk, refusal: u64, name: &str) {
+fn of(pair: &mut Pair, disk: &Disk, refusal: u64, name: &str) -> Attachment {
     let mut image = Image::new(disk.length, disk.length as u64, MIB, [0; 16]);
     image.tables(disk);
-    pair.answers(&image, refusal, name);
+    pair.answers(&image, refusal, name)
 }
 
 /// The same after a change to the usual disk.
@@ -235,25 +236,34 @@ fn with_bat(disk: &mut Disk, mibs: usize) {
 #[test]
 fn the_shortest_bat() {
     let mut pair = Pair::default();
-    // block size in MiB, logical sector size, and the largest disk that a BAT of 1 and 2 MiB does for
-    let cases: [(u64, u32, [u64; 2]); 4] = [
-        (1, 512, [124 << 30, 252 << 30]),
-        (32, 512, [4064 << 30, 8128 << 30]),
-        (1, 4096, [96 << 30, 224 << 30]),
-        (256, 4096, [32_512 << 30, 65_024 << 30]),
-    ];
-    for (block, logical, sizes) in cases {
-        for (mibs, size) in (1..).zip(sizes) {
-            let step = u64::from(logical);
-            for (size, refusal) in [(size - step, 0), (size, 0), (size + step, 15)] {
-                let change = |disk: &mut Disk| {
-                    with_bat(disk, mibs);
-                    disk.set(LOGICAL, &logical.to_le_bytes());
-                    disk.set(FILE_PARAMETERS, &(block * M).to_le_bytes());
-                    disk.set(DISK_SIZE, &size.to_le_bytes());
-                };
-                let name = format!("{size} in blocks of {block} MiB");
-                after(&mut pair, change, refusal, &name);
+    // block size in MiB, logical sector size, MiB of the BAT, and GiB of the largest disk that it does for
+    for (block, logical, mibs, gib) in [
+        (1, 512, 1, 124),
+        (1, 512, 2, 252),
+        (1, 4096, 1, 96),
+        (1, 4096, 2, 224),
+        (32, 512, 1, 4064),
+        (32, 512, 2, 8128),
+        // a sector more needs one entry more than there is
+        (32, 512, 16, 65_024),
+        (256, 4096, 1, 32_512),
+        (256, 4096, 2, 65_024),
+    ] {
+        let size = gib << 30;
+        let sector = u64::from(logical);
+        for (size, refusal) in [(size - sector, 0), (size, 0), (size + sector, 15)] {
+            let mut disk = Disk::default();
+            with_bat(&mut disk, mibs);
+            disk.set(LOGICAL, &u32::to_le_bytes(logical));
+            disk.set(FILE_PARAMETERS, &(block * M).to_le_bytes());
+            disk.set(DISK_SIZE, &size.to_le_bytes());
+            let name = format!("{size} in blocks of {block} MiB");
+            let mut facts = of(&mut pair, &disk, refusal, &name).facts;
+            // a lookup asks the same of the facts
+            if refusal == 0 {
+                assert_eq!(pair.lookup(&facts, size / sector - 1), Lookup::Zero);
+                facts.disk_size = (gib << 30) + sector;
+                assert_eq!(pair.lookup(&facts, 0), Lookup::Refused(16), "{name}");
             }
         }
     }
