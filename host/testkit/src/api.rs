@@ -2,6 +2,8 @@
 use crate::vhdx::{facts_in, Slots};
 use vhdx_model::Facts;
 
+pub use vhdx_model::Sector;
+
 extern "C" {
     fn shrunvaki_bench_crc32c(bytes: *const u8, length: usize) -> u32;
     fn shrunvaki_bench_plan(
@@ -31,20 +33,6 @@ extern "C" {
 pub enum Plan {
     Refused(u64),
     Apply { length: u64, count: u64 },
-}
-
-/// A sector to write: its offset in the file, and where its bytes are.
-#[derive(Debug, PartialEq, Eq, Clone, Copy)]
-pub enum Sector {
-    Zeros {
-        offset: u64,
-    },
-    /// `descriptor` and `sector` are offsets in the log.
-    Data {
-        offset: u64,
-        descriptor: u64,
-        sector: u64,
-    },
 }
 
 pub fn crc32c(bytes: &[u8]) -> u32 {
