@@ -66,7 +66,7 @@ const TEXTS: [(&str, &str); 22] = [
     ),
     (
         "the BAT region is too short for the disk",
-        "The table has to hold whole chunks, which is more than other programs ask of a disk without a parent. With larger blocks it fits: qemu-img convert -O vhdx -o block_size=33554432 OLD NEW.",
+        "The table has to hold whole chunks, which is more than other programs ask of a disk without a parent. With larger blocks it mostly does: qemu-img convert -O vhdx -o block_size=33554432 OLD NEW.",
     ),
     (
         "the facts do not fit the image, or the length is above the capacity",
