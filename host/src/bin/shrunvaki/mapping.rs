@@ -23,7 +23,11 @@ extern "C" {
     fn _exit(status: c_int) -> !;
 }
 
-// Linux on x86-64, for which the library's archive is
+#[cfg(not(all(target_os = "linux", target_arch = "x86_64")))]
+compile_error!(
+    "the numbers below are those of Linux on x86-64, for which the library's archive is"
+);
+
 const READ_WRITE: c_int = 1 | 2;
 const SHARED: c_int = 1;
 const PRIVATE: c_int = 2;
