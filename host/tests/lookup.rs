@@ -1,6 +1,6 @@
 //! Lookups on real bytes: document 01's numbers, the table of states, refusals 16 to 20 at their boundaries and in their order,
 //! bits and entries at the seams of chunks, and random disks. Each expected answer is written from document 01, and the model
-//! in `host/src/model.rs` has to give it too.
+//! in `host/model` has to give it too.
 use shrunvaki_testkit::api;
 use shrunvaki_testkit::random::Random;
 use shrunvaki_testkit::sample::{

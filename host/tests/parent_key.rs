@@ -1,5 +1,5 @@
 //! Values of a parent locator on real bytes: where each lies, and every reason for there being none. Each expected answer is
-//! written from document 01, and the model in `host/src/model.rs` has to give it too.
+//! written from document 01, and the model in `host/model` has to give it too.
 use shrunvaki_testkit::api;
 use shrunvaki_testkit::sample::{extent, forbidden, Sample, M};
 use shrunvaki_testkit::tables::{locator, stored, ucs2, Disk, LOCATOR_TYPE};
