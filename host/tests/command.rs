@@ -392,7 +392,7 @@ fn bytes_of_sectors() {
 fn misuse() {
     let sample = Sample::new(bytes(&sample_file()));
     let file = sample.path.as_str();
-    let cases: [&[&str]; 18] = [
+    let cases: [&[&str]; 19] = [
         &[],
         &["attack", file],
         &["attach"],
@@ -410,6 +410,7 @@ fn misuse() {
         &["cat", file, "--from", "1"],
         &["parent", file, "a", "b"],
         &["demo", file],
+        &["demo", "--capacity", "9"],
         &["help", "me"],
     ];
     for words in cases {

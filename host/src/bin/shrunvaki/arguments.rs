@@ -133,25 +133,25 @@ impl Given {
         };
         match name {
             "lookup" => {
-                self.only(name, &[], usize::MAX)?;
+                self.only(name, &["--capacity"], usize::MAX)?;
                 Ok(Action::Lookup(source, self.sectors()?))
             }
             "map" => {
-                self.only(name, &["--from", "--count"], 0)?;
+                self.only(name, &["--capacity", "--from", "--count"], 0)?;
                 Ok(Action::Map(source, self.range(self.from)))
             }
             "cat" => {
-                self.only(name, &["--sector", "--count"], 0)?;
+                self.only(name, &["--capacity", "--sector", "--count"], 0)?;
                 Ok(Action::Cat(source, self.range(self.sector)))
             }
             "parent" => {
-                self.only(name, &[], 1)?;
+                self.only(name, &["--capacity"], 1)?;
                 let key = self.words.pop_front();
                 let key = key.map(|key| key.to_string_lossy().into_owned());
                 Ok(Action::Parent(source, key))
             }
             _ => {
-                self.only(name, &["--apply"], 0)?;
+                self.only(name, &["--capacity", "--apply"], 0)?;
                 Ok(match self.apply {
                     true => Action::Apply(source),
                     false => Action::Attach(source),
@@ -181,6 +181,7 @@ impl Given {
     fn only(&self, command: &str, options: &[&str], words: usize) -> Result<(), Stop> {
         let given = [
             ("--apply", self.apply),
+            ("--capacity", self.capacity.is_some()),
             ("--from", self.from.is_some()),
             ("--sector", self.sector.is_some()),
             ("--count", self.count.is_some()),
