@@ -56,7 +56,8 @@ impl Sample {
     }
 }
 
-/// A disk of 64 MiB in blocks of 1 MiB, none of them with a log, with these BAT entries from the first on.
+/// A disk of 64 MiB in blocks of 1 MiB without a log, with these BAT entries from the first on. Behind its tables the file holds
+/// numbers that tell its sectors apart.
 fn disk_with(disk: &Disk, entries: &[u64], length: usize) -> Sample {
     let mut file = bytes(&{
         let mut pending = sample_file();
@@ -563,6 +564,24 @@ fn a_closed_pipe_ends_quietly() {
 }
 
 #[test]
+fn apply_does_what_it_announced_though_nobody_listens() {
+    let pending = sample_file();
+    let sample = Sample::new(bytes(&pending));
+    let mut child = Command::new(PROGRAM)
+        .args(["attach", "--apply", &sample.path])
+        .stdout(Stdio::piped())
+        .stderr(Stdio::piped())
+        .spawn()
+        .expect("the command");
+    drop(child.stdout.take());
+    let ended = child.wait_with_output().expect("its end");
+    assert_eq!(ended.status.code(), Some(0));
+    assert!(ended.stderr.is_empty(), "{:?}", ended.stderr);
+    let (applied, length) = pending.applied();
+    assert!(sample.now() == applied[..length as usize]);
+}
+
+#[test]
 fn names_of_files() {
     let folder = Folder::new("command");
     let bytes = bytes(&sample_file());
@@ -628,8 +647,13 @@ fn the_demonstration() {
 
 #[test]
 fn output_that_cannot_be_written() {
-    let full = File::options().write(true).open("/dev/full");
-    let full = full.expect("the device that is always full");
-    let ran = end(Command::new(PROGRAM).arg("demo").stdout(full)).with(2);
-    assert!(ran.errors.contains("cannot write the output"), "{ran:?}");
+    // what cannot be announced is not done
+    let sample = Sample::new(bytes(&sample_file()));
+    for words in [&["demo"][..], &["attach", "--apply", &sample.path]] {
+        let full = File::options().write(true).open("/dev/full");
+        let full = full.expect("the device that is always full");
+        let ran = end(Command::new(PROGRAM).args(words).stdout(full)).with(2);
+        assert!(ran.errors.contains("cannot write the output"), "{ran:?}");
+    }
+    sample.assert_unchanged();
 }

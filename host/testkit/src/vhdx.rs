@@ -1,6 +1,5 @@
 //! The library's calls as C programs see them, with every answer held to its form and taken apart into the model's types.
 use shrunvaki::raw;
-use vhdx_model as model;
 
 pub use shrunvaki::raw::Slots;
 pub use vhdx_model::{Attachment, Extent, Facts, Lookup, Stepped};
@@ -125,7 +124,7 @@ pub fn lookup_raw(slots: &Slots, buffer: &[u8], length: u64, sector: u64) -> Raw
 }
 
 /// Where the value under a key of the parent locator lies in the image, 0 and 0 where there is none.
-pub fn parent_key(facts: &Facts, buffer: &[u8], length: u64, key: &[u8]) -> model::Extent {
+pub fn parent_key(facts: &Facts, buffer: &[u8], length: u64, key: &[u8]) -> Extent {
     let [offset, length] = raw::parent_key(&slots_of(facts), buffer, length, key);
     Extent { offset, length }
 }

@@ -33,8 +33,9 @@ struct Given {
     version: bool,
     apply: bool,
     capacity: Option<u64>,
-    /// `--from` of map, `--sector` of cat.
+    /// Of map.
     from: Option<u64>,
+    /// Of cat.
     sector: Option<u64>,
     count: Option<u64>,
 }

@@ -9,7 +9,7 @@ use std::path::{Path, PathBuf};
 use vhdx_builder::image::SECTOR;
 use vhdx_builder::sample;
 
-/// The crash comes when so many sectors are written, in the middle of the block of zeros, which the second is the first of.
+/// So many sectors are written before the crash: the BAT's, and then those at the start of the block that the log zeros.
 const WRITTEN: u64 = 100;
 
 /// A folder that is removed when the demonstration ends, however it ends.

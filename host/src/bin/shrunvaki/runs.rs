@@ -5,7 +5,7 @@ use crate::source::Disk;
 use shrunvaki::{Lookup, Refusal};
 
 /// The sectors that the user asks for; all from the first on where no count is given.
-#[derive(Debug, PartialEq, Eq, Clone, Copy, Default)]
+#[derive(Debug, PartialEq, Eq, Clone, Copy)]
 pub struct Range {
     pub first: u64,
     pub count: Option<u64>,
