@@ -21,37 +21,44 @@ extern "C" {
 #endif
 
 /*
- * Why a call refuses: the first of these that applies. 0 is no refusal.
+ * What is wrong where a call refuses by this number; NULL where no call does, as for 0. A call refuses by the first of its
+ * numbers that applies:
  *
- *  attach and step; no byte is changed:
- *   1  the length is above the capacity or below 1 MiB
- *   2  the file does not begin "vhdxfile"
- *   3  no header is current
- *   4  a field of the current header breaks its rule
- *   5  the header names a log, but there is no log sequence in it
- *   6  the file is shorter than the log says that it was (FlushedFileOffset)
- *   7  the log would write into the first MiB or into itself
- *   8  the log would grow the file past the capacity or past 128 TiB
- *  attach; the log is applied, and every fact is zero:
- *   9  neither copy of the region table is valid
- *  10  an entry of the region table breaks its rule
- *  11  there is no BAT region or no metadata region
- *  12  the metadata region is empty, or its table or an entry breaks its rule
- *  13  a needed metadata item is missing or has a wrong length
- *  14  a metadata item's value is out of range
- *  15  the BAT region is too short for the disk
- *  lookup; nothing is ever written:
- *  16  the facts do not fit the image, or the length is above the capacity
- *  17  the disk has no such sector
- *  18  the block's state is 4 or 5, or 7 without a parent
- *  19  the block starts below 1 MiB or ends past the image
- *  20  the block's bitmap is not in state 6, starts below 1 MiB or ends past the image
- *  step; no byte is changed:
- *  21  the log's work has no such step
- *  22  the step's sector ends past the given length
+ *   1 to 8   attach, plan, step   no byte is changed
+ *   9 to 15  attach               the log is applied, and every fact is zero
+ *  16 to 20  lookup               nothing is ever written
+ *  21, 22    step                 no byte is changed
  */
+static inline const char *shrunvaki_vhdx_refusal_text(uint64_t number)
+{
+    static const char *const texts[] = {
+        /*  1 */ "the file is shorter than 1 MiB or longer than the capacity",
+        /*  2 */ "the file does not begin \"vhdxfile\"",
+        /*  3 */ "no header is current",
+        /*  4 */ "a field of the current header breaks its rule",
+        /*  5 */ "the header names a log, but no log sequence is in it",
+        /*  6 */ "the file is shorter than its log says that it was (FlushedFileOffset)",
+        /*  7 */ "the log would write into the first MiB or into itself",
+        /*  8 */ "the log would grow the file past the capacity or past 128 TiB",
+        /*  9 */ "neither copy of the region table is valid",
+        /* 10 */ "an entry of the region table breaks its rule",
+        /* 11 */ "there is no BAT region or no metadata region",
+        /* 12 */ "the metadata region is empty, or its table or an entry breaks its rule",
+        /* 13 */ "a needed metadata item is missing or has a wrong length",
+        /* 14 */ "a metadata item's value is out of range",
+        /* 15 */ "the BAT region is too short for the disk",
+        /* 16 */ "the facts do not fit the image, or the length is above the capacity",
+        /* 17 */ "the disk has no such sector",
+        /* 18 */ "the block's state is reserved, or it is partially present without a parent",
+        /* 19 */ "the block starts below 1 MiB or ends past the file",
+        /* 20 */ "the block's sector bitmap is not present, starts below 1 MiB or ends past the file",
+        /* 21 */ "the log's work has no such step",
+        /* 22 */ "the step's sector ends past the given length",
+    };
+    return number >= 1 && number <= sizeof texts / sizeof *texts ? texts[number - 1] : NULL;
+}
 
-/* The slots of attach's answer. Slots 16 to 31 are 0. */
+/* The slots of attach's answer, the first three of plan's too. Slots 16 to 31 are 0. */
 enum {
     SHRUNVAKI_REFUSAL = 0,
     SHRUNVAKI_LENGTH = 1, /* of the image after the call, in bytes */
@@ -93,6 +100,16 @@ enum {
  * another attach of what it left, at the length that it left and in a buffer of the same capacity.
  */
 uint64_t shrunvaki_vhdx_attach(uint8_t *buffer, size_t capacity, uint64_t length, uint64_t answer[32]);
+
+/*
+ * Says what attach would do, and does none of it: reads the headers and the log, and never writes the buffer. The time it takes
+ * is linear in the log's length, however much the log would write. Returns the number of 1 to 8 by which attach would refuse, 0
+ * where it would apply the log; it may then still refuse by 9 to 15, which judge the tables as the log leaves them.
+ *
+ * answer[0] is the number that is returned, answer[1] the length of the image as attach would leave it, answer[2] the count of
+ * sectors that it would write, answer[3] is 0. With a refusal the length is the given one, and the count 0.
+ */
+uint64_t shrunvaki_vhdx_plan(const uint8_t *buffer, size_t capacity, uint64_t length, uint64_t answer[4]);
 
 /*
  * Does one step of the log's work alone, for a caller who writes the file through after each: step 0 grows the image, step k

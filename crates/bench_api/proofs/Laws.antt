@@ -1,12 +1,11 @@
--- What the exported functions write into an answer, and the sectors of an answered plan.
+-- The sectors of an answered plan, and what is written of one into an answer.
 -- Assumes nothing.
 use mathlib.Core.Path.{_≡_, refl, sym, ap, _∙_, subst}
 use mathlib.Core.List.{List}
 use mathlib.Core.Option.{Option, none}
 use Prim.Native.Nat.{ℕ}
-use lib.ListN.{length, set, getElem?}
-use Rattle.vhdx_walk.specs.Entries.{Sector, sectors}
-use Rattle.vhdx_walk.specs.Cursor.{descriptorsLeft}
+use lib.ListN.{set, getElem?}
+use Rattle.vhdx_walk.specs.Entries.{Sector}
 use Rattle.vhdx_walk.specs.Walk.{sectorsLeft, nextOf, walkFrom, Ready}
 use Rattle.vhdx_walk.specs.declared.run.Source.{Source}
 use Rattle.vhdx_walk.specs.declared.run.Source.the-variants.{Zeros, Data}
@@ -15,25 +14,14 @@ use Rattle.vhdx_walk.specs.declared.SectorWrite.{SectorWrite}
 use Rattle.vhdx_walk.specs.declared.Next.{Next}
 use Rattle.vhdx_walk.specs.declared.Next.the-variants.{Sector as Here, End}
 use Rattle.vhdx_walk.proofs.Sectors.{left-from}
-use Rattle.vhdx_log.specs.Work.{Plan, sectorsPlanned, count}
-use Rattle.vhdx_log.specs.Answers.{planIn, countOf, ReadyIn}
+use Rattle.vhdx_log.specs.Work.{Plan, sectorsPlanned}
+use Rattle.vhdx_log.specs.Answers.{planIn, ReadyIn}
 use Rattle.vhdx_log.specs.declared.Answer.{Answer}
 use Rattle.vhdx_log.specs.declared.Answer.the-variants.{Refused, Apply}
 use Rattle.vhdx_log.specs.declared.Work.{Work}
-use Rattle.bench_api.specs.Plans.{refusal, figuresIn, sourceKind, sourceIn, Answered}
+use Rattle.bench_api.specs.Sectors.{sourceKind, sourceIn, Answered}
 
-module _ (log : List ℕ) (p : Plan) (r : Answer) (same : planIn log r ≡ p) (counted : countOf r ≡ count p) (ready : ReadyIn log r) where
-  pub refused-figures : {c : ℕ} (l : List ℕ) → r ≡ Refused c → (c ≡ refusal p) × (set (set l 0 0) 1 0 ≡ figuresIn p l)
-  refused-figures l e =
-      let q = sym (ap (planIn log) e) ∙ same in
-      (ap refusal q, ap (λ (x : Plan). figuresIn x l) q)
-
-  pub applied-figures : {w : Work} (l : List ℕ) → r ≡ Apply w → (0 ≡ refusal p) × (set (set l 0 (w .length)) 1 (w .count) ≡ figuresIn p l)
-  applied-figures {w} l e =
-      let q = sym (ap (planIn log) e) ∙ same in
-      let c : w .count ≡ length (sectors (descriptorsLeft log (w .cursor))) = sym (ap countOf e) ∙ counted ∙ ap count (sym q) in
-      (ap refusal q, ap (λ (n : ℕ). set (set l 0 (w .length)) 1 n) c ∙ ap (λ (x : Plan). figuresIn x l) q)
-
+module _ (log : List ℕ) (p : Plan) (r : Answer) (same : planIn log r ≡ p) (ready : ReadyIn log r) where
   pub refused-sectors : {c : ℕ} (k : ℕ) → r ≡ Refused c → none ≡ getElem? (sectorsPlanned p) k
   refused-sectors k e = ap (λ (x : Plan). getElem? (sectorsPlanned x) k) (sym (ap (planIn log) e) ∙ same)
 

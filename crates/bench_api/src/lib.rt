@@ -1,5 +1,5 @@
-// What this project's own tests and benchmarks link: the checksum, the plan of a log's work in figures, and one of its
-// sectors; in `tables` the facts of an image. Not for other programs.
+// What this project's own tests and benchmarks link: the checksum, and one sector of the plan of a log's work; in `tables` the
+// facts of an image. Not for other programs.
 pub mod tables;
 
 use vhdx_log::Answer;
@@ -11,33 +11,13 @@ ghost use Rattle.crc32c.specs.Crc.{crc};
 ghost use Rattle.vhdx_log.specs.Work.{sectorsPlanned};
 ghost use Rattle.vhdx_log.specs.Plan.{plan};
 ghost use Rattle.vhdx_log.specs.Answers.{logOf};
-ghost use Rattle.bench_api.specs.Plans.{refusal, figuresIn, Answered};
+ghost use Rattle.bench_api.specs.Sectors.{Answered};
 
 #[no_mangle]
 pub extern "C" fn shrunvaki_bench_crc32c(bytes: &[u8]) -> u32
     ensures { λ r. ⌜ r ≡ crc (now (bytes .entry)) ⌝ }
 {
     crc32c::checksum(bytes)
-}
-
-// The refusal's number, or 0 and in the answer the final length and the count.
-#[no_mangle]
-pub extern "C" fn shrunvaki_bench_plan(buffer: &[u8], length: u64, answer: &mut [u64; 2]) -> u64
-    ensures { λ r. ⌜ r ≡ refusal (plan (now (buffer .entry)) length) ⌝ }
-    ensures { λ r. ⌜ now (answer .exit) ≡ figuresIn (plan (now (buffer .entry)) length) (now (answer .entry)) ⌝ }
-{
-    match vhdx_log::plan(buffer, length) {
-        Answer::Refused(number) => {
-            answer[0] = 0;
-            answer[1] = 0;
-            number
-        }
-        Answer::Apply(work) => {
-            answer[0] = work.length;
-            answer[1] = work.count;
-            0
-        }
-    }
 }
 
 // Sector number k of the plan: 0 without one; 1 for zeros, with its offset; 2 for data, with its offset and the offsets in

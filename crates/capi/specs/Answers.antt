@@ -8,6 +8,7 @@ use Rattle.decision.specs.Refusal.{Outcome}
 use Rattle.extent.specs.declared.Extent.{Extent}
 use Rattle.vhdx_map.specs.Lookup.{Location, figures}
 use Rattle.vhdx.specs.declared.Attached.{Attached}
+use Rattle.vhdx.specs.declared.Planned.{Planned}
 use Rattle.vhdx.specs.declared.Stepped.{Stepped}
 use Rattle.vhdx_slots.specs.Slots.{inSlots, numbers, factsFrom}
 
@@ -22,6 +23,10 @@ attachedIn a answer = inSlots 0 (a .refusal ∷ a .length ∷ a .count ∷ (numb
 -- The array that lookup and parent key take is the one that attach wrote: it holds the facts that attach answered. Proved in proofs/Slots.antt
 abbrev pub HoldsTheFacts : Type 0
 HoldsTheFacts = (a : Attached) (answer : List ℕ) → length answer ≡ 32 → factsFrom (attachedIn a answer) ≡ a .facts
+
+-- all 4 slots: refusal, length, count, zero
+abbrev pub plannedIn : Planned → List ℕ → List ℕ
+plannedIn a answer = inSlots 0 (a .refusal ∷ a .length ∷ a .count ∷ 0 ∷ []) answer
 
 -- both slots: refusal, length
 abbrev pub steppedIn : Stepped → List ℕ → List ℕ

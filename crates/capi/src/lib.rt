@@ -1,4 +1,4 @@
-// What C and Rust link: the four calls over numbers and arrays. Each takes its arrays apart and makes the proved call.
+// What C and Rust link: the five calls over numbers and arrays. Each takes its arrays apart and makes the proved call.
 use vhdx_map::Answer;
 ghost use mathlib.Core.Path.{_≡_};
 ghost use Rattle.decision.specs.Refusal.{refusalOf};
@@ -6,9 +6,10 @@ ghost use Rattle.vhdx_map.specs.Lookup.{lookup};
 ghost use Rattle.vhdx_parent.specs.Key.{keyExtent};
 ghost use Rattle.vhdx_replay.specs.Calls.{file};
 ghost use Rattle.vhdx.specs.Attach.{afterAttach, attachAnswer};
+ghost use Rattle.vhdx.specs.Plan.{planAnswer};
 ghost use Rattle.vhdx.specs.Step.{afterStep, stepAnswer};
 ghost use Rattle.vhdx_slots.specs.Slots.{factsFrom};
-ghost use Rattle.capi.specs.Answers.{restCleared, attachedIn, steppedIn, figuresIn, extentIn};
+ghost use Rattle.capi.specs.Answers.{restCleared, attachedIn, plannedIn, steppedIn, figuresIn, extentIn};
 
 // Slots 16 to 31, which have no meaning yet.
 fn clear_rest(answer: &mut [u64; 32])
@@ -40,6 +41,20 @@ pub extern "C" fn shrunvaki_vhdx_attach(
     vhdx_slots::write(facts, answer);
     clear_rest(answer);
     attached.refusal
+}
+
+// The refusal's number or 0. The answer: that number, length, count, zero.
+#[no_mangle]
+pub extern "C" fn shrunvaki_vhdx_plan(buffer: &[u8], length: u64, answer: &mut [u64; 4]) -> u64
+    ensures { λ r. ⌜ r ≡ planAnswer (file (now (buffer .entry)) length) .refusal ⌝ }
+    ensures { λ r. ⌜ now (answer .exit) ≡ plannedIn (planAnswer (file (now (buffer .entry)) length)) (now (answer .entry)) ⌝ }
+{
+    let planned = vhdx::plan(buffer, length);
+    answer[0] = planned.refusal;
+    answer[1] = planned.length;
+    answer[2] = planned.count;
+    answer[3] = 0;
+    planned.refusal
 }
 
 // The refusal's number or 0. The answer: that number, length.

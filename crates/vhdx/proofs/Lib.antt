@@ -1,4 +1,5 @@
 pub mod Attaching
+pub mod Foretelling
 pub mod Stepping
 pub mod Refusals
 pub mod CrashSafety

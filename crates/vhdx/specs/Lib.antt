@@ -1,4 +1,5 @@
 pub mod Attach
+pub mod Plan
 pub mod Step
 pub mod Refusals
 pub mod CrashSafety

@@ -1,5 +1,5 @@
-// The four calls of the library: attach, a single step of the replay, lookup, parent key. None has a `requires`: a caller may
-// hand in any buffer, length, step, sector, facts and key.
+// The five calls of the library: attach, the plan that it follows, a single step of the replay, lookup, parent key. None has a
+// `requires`: a caller may hand in any buffer, length, step, sector, facts and key.
 // Attach and step write, and write through `vhdx_replay` alone.
 use extent::Extent;
 use vhdx_facts::Facts;
@@ -13,6 +13,7 @@ ghost use Rattle.vhdx_parent.specs.Key.{keyExtent};
 ghost use Rattle.vhdx_replay.specs.Calls.{file};
 ghost use Rattle.vhdx_tables.specs.Tables.{tables, reading};
 ghost use Rattle.vhdx.specs.Attach.{afterAttach, told, attachAnswer};
+ghost use Rattle.vhdx.specs.Plan.{planAnswer};
 ghost use Rattle.vhdx.specs.Step.{afterStep, stepAnswer};
 
 pub struct Attached {
@@ -24,6 +25,15 @@ pub struct Attached {
     pub count: u64,
     // all zero on a refusal
     pub facts: Facts,
+}
+
+pub struct Planned {
+    // document 01's number, 1 to 8, or 0
+    pub refusal: u64,
+    // of the image as attach would leave it
+    pub length: u64,
+    // how many sectors the log's replay would write
+    pub count: u64,
 }
 
 pub struct Stepped {
@@ -67,6 +77,25 @@ fn read(buffer: &[u8], log: Extent, work: Work) -> Attached
         length: work.length,
         count: work.count,
         facts,
+    }
+}
+
+// What attach would do, without doing it: reads the headers and the log, never writes, and takes time linear in the log.
+// Refusals 9 to 15 are not foretold: they judge the tables as the log leaves them.
+pub fn plan(buffer: &[u8], length: u64) -> Planned
+    ensures { λ r. ⌜ r ≡ planAnswer (file (now (buffer .entry)) length) ⌝ }
+{
+    match vhdx_log::plan(buffer, length) {
+        vhdx_log::Answer::Refused(refusal) => Planned {
+            refusal,
+            length,
+            count: 0,
+        },
+        vhdx_log::Answer::Apply(planned) => Planned {
+            refusal: 0,
+            length: planned.length,
+            count: planned.count,
+        },
     }
 }
 

@@ -20,7 +20,7 @@ nth-requires c κs =
     let p = c .before .before .before .before .before .plan .ensures in
     let log = logOf (a .buffer .now) (a .length) in
     let defined = plan (a .buffer .now) (a .length) in
-    subst (λ (l : List ℕ). Ready l (c .before .from .result)) (sym (c .log .ensures)) (applied-ready log defined r (p .0) (p .1 .0) (p .1 .1) (c .before .before .before .work .given .1) (c .before .from .ensures))
+    subst (λ (l : List ℕ). Ready l (c .before .from .result)) (sym (c .log .ensures)) (applied-ready log defined r (p .0) (p .1 .1) (c .before .before .before .work .given .1) (c .before .from .ensures))
 
 returns : tie.Need-returns
 returns c =
@@ -29,7 +29,7 @@ returns c =
     let p = c .before .before .plan .ensures in
     let log = logOf (a .buffer .now) (a .length) in
     let defined = plan (a .buffer .now) (a .length) in
-    no-sector {n = End} (refused-sectors log defined r (p .0) (p .1 .0) (p .1 .1) (a .k) (c .enum-told .given .1)) (a .answer .now) refl
+    no-sector {n = End} (refused-sectors log defined r (p .0) (p .1 .1) (a .k) (c .enum-told .given .1)) (a .answer .now) refl
 
 returns-2 : tie.Need-returns-2
 returns-2 c =
@@ -39,7 +39,7 @@ returns-2 c =
     let log = logOf (a .buffer .now) (a .length) in
     let defined = plan (a .buffer .now) (a .length) in
     let there = subst (λ (l : List ℕ). nextOf l (c .before .before .nth .result) ≡ getElem? (sectorsLeft l (c .before .before .before .before .from .result)) (a .k)) (c .before .before .before .log .ensures) (c .before .before .nth .ensures .0) in
-    let is = applied-sectors log defined r (p .0) (p .1 .0) (p .1 .1) (a .k) (c .before .before .before .before .before .before .work .given .1) (c .before .before .before .before .from .ensures) there in
+    let is = applied-sectors log defined r (p .0) (p .1 .1) (a .k) (c .before .before .before .before .before .before .work .given .1) (c .before .before .before .before .from .ensures) there in
     no-sector is (a .answer .now) (c .enum-told2 .given .1)
 
 returns-3 : tie.Need-returns-3
@@ -50,7 +50,7 @@ returns-3 c =
     let log = logOf (a .buffer .now) (a .length) in
     let defined = plan (a .buffer .now) (a .length) in
     let there = subst (λ (l : List ℕ). nextOf l (c .before .before .before .before .before .nth .result) ≡ getElem? (sectorsLeft l (c .before .before .before .before .before .before .before .from .result)) (a .k)) (c .before .before .before .before .before .before .log .ensures) (c .before .before .before .before .before .nth .ensures .0) in
-    let is = applied-sectors log defined r (p .0) (p .1 .0) (p .1 .1) (a .k) (c .before .before .before .before .before .before .before .before .before .work .given .1) (c .before .before .before .before .before .before .before .from .ensures) there in
+    let is = applied-sectors log defined r (p .0) (p .1 .1) (a .k) (c .before .before .before .before .before .before .before .before .before .work .given .1) (c .before .before .before .before .before .before .before .from .ensures) there in
     zero-sector is (a .answer .now) (c .before .before .before .sector .given .1) (c .enum-told3 .given .1)
 
 returns-4 : tie.Need-returns-4
@@ -61,7 +61,7 @@ returns-4 c =
     let log = logOf (a .buffer .now) (a .length) in
     let defined = plan (a .buffer .now) (a .length) in
     let there = subst (λ (l : List ℕ). nextOf l (c .before .before .before .before .before .before .nth .result) ≡ getElem? (sectorsLeft l (c .before .before .before .before .before .before .before .before .from .result)) (a .k)) (c .before .before .before .before .before .before .before .log .ensures) (c .before .before .before .before .before .before .nth .ensures .0) in
-    let is = applied-sectors log defined r (p .0) (p .1 .0) (p .1 .1) (a .k) (c .before .before .before .before .before .before .before .before .before .before .work .given .1) (c .before .before .before .before .before .before .before .before .from .ensures) there in
+    let is = applied-sectors log defined r (p .0) (p .1 .1) (a .k) (c .before .before .before .before .before .before .before .before .before .before .work .given .1) (c .before .before .before .before .before .before .before .before .from .ensures) there in
     data-sector is (a .answer .now) (c .before .before .before .before .sector .given .1) (c .before .source .given .1)
 
 pub shrunvaki-bench-sector-spec : {M : Type 1} → statement M

@@ -1,5 +1,5 @@
--- A plan in figures, and one of its sectors as the exported functions answer them. An answer is written into an array that the
--- caller lends: what stands in it otherwise stays.
+-- One sector of a plan, as the exported function answers it. The answer is written into an array that the caller lends: what stands
+-- in it otherwise stays.
 -- Assumes nothing.
 use mathlib.Core.List.{List}
 use mathlib.Core.Option.{Option}
@@ -12,19 +12,6 @@ use Rattle.vhdx_walk.specs.declared.run.Source.{Source}
 use Rattle.vhdx_walk.specs.declared.run.Source.the-variants.{Zeros, Data}
 use Rattle.vhdx_walk.specs.declared.Next.{Next}
 use Rattle.vhdx_walk.specs.declared.Next.the-variants.{Sector as Here, End}
-use Rattle.vhdx_log.specs.Work.{Plan, refused, apply, count}
-
-abbrev pub refusal : Plan → ℕ
-refusal (refused c) = c
-refusal (apply n ss) = 0
-
-abbrev pub finalLength : Plan → ℕ
-finalLength (refused c) = 0
-finalLength (apply n ss) = n
-
--- the final length and the count; zeros where the plan is a refusal
-abbrev pub figuresIn : Plan → List ℕ → List ℕ
-figuresIn p answer = set (set answer 0 (finalLength p)) 1 (count p)
 
 -- a sector's kind, and what is written of it: its offset, and where the log holds its bytes
 abbrev pub sourceKind : Source → ℕ
