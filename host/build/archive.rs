@@ -1,10 +1,11 @@
 //! Has `rt staticlib` prove a crate of the library and write its archive, where that was not done for the very files that are
-//! there now.
+//! there now: in the repository, or in cargo's own folder where the repository cannot be written.
 use std::collections::{BTreeMap, BTreeSet};
 use std::env;
 use std::ffi::OsStr;
 use std::fs::{self, File};
 use std::hash::{DefaultHasher, Hash, Hasher};
+use std::io;
 use std::path::{Path, PathBuf};
 use std::process::Command;
 
@@ -12,37 +13,69 @@ use std::process::Command;
 pub fn link(name: &str, root: &str) {
     let root = Path::new(env!("CARGO_MANIFEST_DIR")).join(root);
     let root = root.canonicalize().expect("the repository's top");
-    let archive = build(name, &root);
-    // a copy of cargo's own: `rt ci` removes the folder in which rt writes it
     let folder = PathBuf::from(env::var_os("OUT_DIR").expect("cargo's folder"));
-    fs::copy(&archive, folder.join(format!("lib{name}.a"))).expect("a copy of the archive");
+    let archive = build(name, &root, &folder.join("library"));
+    // a copy of cargo's own: `rt ci` removes the folder in which rt writes it
+    fs::write(folder.join(format!("lib{name}.a")), archive).expect("a copy of the archive");
     println!("cargo:rustc-link-search=native={}", folder.display());
     println!("cargo:rustc-link-lib=static={name}");
 }
 
-/// Has the archive made, and answers where it is. One build at a time: two that prove the same crates would write the same files.
-fn build(name: &str, root: &Path) -> PathBuf {
+/// The archive's bytes. Where it was made from the files that are there now, nothing is written.
+fn build(name: &str, root: &Path, own: &Path) -> Vec<u8> {
     let crates = reached(name, root);
     for path in sources(&crates, root) {
         println!("cargo:rerun-if-changed={}", path.display());
     }
-    let folder = root.join("target/staticlib");
-    let archive = folder.join(format!("lib{name}.a"));
-    fs::create_dir_all(&folder).expect("the folder target/staticlib");
-    let lock = File::create(folder.join(".lock")).expect("a file in target/staticlib");
-    lock.lock().expect("the lock of target/staticlib");
-    let stamp = folder.join(format!("lib{name}.made-from"));
-    let sources = fingerprint(&crates, root);
-    // the archive's own bytes count too: `rt staticlib`, run by hand, may have written it from other sources
-    let state = || {
-        Some(format!(
-            "{sources} {:016x}\n",
-            hash(&fs::read(&archive).ok()?)
-        ))
-    };
-    if state().is_some() && state() == fs::read_to_string(&stamp).ok() {
+    let files = files(&crates, root);
+    let fingerprint = fingerprint(&files, root);
+    if let Some(archive) = made(name, root, &fingerprint) {
         return archive;
     }
+    let (root, _lock) = match lock(root) {
+        Ok(lock) => (root, lock),
+        Err(error) => {
+            println!(
+                "cargo:warning=the library is proved in cargo's folder, not in {root:?}: {error}"
+            );
+            copy(&files, root, own);
+            (own, lock(own).expect("a file in cargo's folder"))
+        }
+    };
+    // whoever had the lock may have made it
+    made(name, root, &fingerprint).unwrap_or_else(|| make(name, root, &crates, &fingerprint))
+}
+
+/// One build at a time writes in a folder: two that prove the same crates would write the same files.
+fn lock(root: &Path) -> io::Result<File> {
+    let folder = root.join("target/staticlib");
+    fs::create_dir_all(&folder)?;
+    let lock = File::create(folder.join(".lock"))?;
+    lock.lock()?;
+    Ok(lock)
+}
+
+/// Where the archive is, and the file that says what it was made from.
+fn places(name: &str, root: &Path) -> [PathBuf; 2] {
+    ["a", "made-from"].map(|end| root.join(format!("target/staticlib/lib{name}.{end}")))
+}
+
+/// The archive's own bytes count too: `rt staticlib`, run by hand, may have written it from other files.
+fn stamp(fingerprint: &str, archive: &[u8]) -> String {
+    let mut hasher = DefaultHasher::new();
+    archive.hash(&mut hasher);
+    format!("{fingerprint} {:016x}\n", hasher.finish())
+}
+
+/// The archive, where it was made from files with this fingerprint.
+fn made(name: &str, root: &Path, fingerprint: &str) -> Option<Vec<u8>> {
+    let [archive, made_from] = places(name, root);
+    let archive = fs::read(archive).ok()?;
+    let same = fs::read_to_string(made_from).ok()? == stamp(fingerprint, &archive);
+    same.then_some(archive)
+}
+
+fn make(name: &str, root: &Path, crates: &BTreeSet<String>, fingerprint: &str) -> Vec<u8> {
     // proves what the crate needs, several crates at a time; `rt staticlib` alone proves one after the other
     let below: Vec<&str> = crates
         .iter()
@@ -51,7 +84,9 @@ fn build(name: &str, root: &Path) -> PathBuf {
         .collect();
     rt(root, &[&["check"], &below[..]].concat());
     rt(root, &["staticlib", name]);
-    fs::write(stamp, state().expect("the archive")).expect("a file in target/staticlib");
+    let [archive, made_from] = places(name, root);
+    let archive = fs::read(archive).expect("the archive");
+    fs::write(made_from, stamp(fingerprint, &archive)).expect("a file in target/staticlib");
     archive
 }
 
@@ -100,40 +135,50 @@ fn sources(crates: &BTreeSet<String>, root: &Path) -> Vec<PathBuf> {
     paths
 }
 
-/// A number that differs where a source or the toolchain does.
-fn fingerprint(crates: &BTreeSet<String>, root: &Path) -> String {
+/// The files of these, which are all that rt reads.
+fn files(crates: &BTreeSet<String>, root: &Path) -> Vec<PathBuf> {
+    let mut files = Vec::new();
+    let mut next = sources(crates, root);
+    while let Some(path) = next.pop() {
+        let end = path.extension().and_then(OsStr::to_str);
+        if path.is_dir() {
+            let inside = fs::read_dir(&path).expect("a folder of a crate");
+            next.extend(inside.map(|entry| entry.expect("an entry").path()));
+        } else if matches!(end, Some("rt" | "antt")) || path.ends_with("crates.txt") {
+            files.push(path);
+        }
+    }
+    files.sort();
+    files
+}
+
+/// A number that differs where a file or the toolchain does.
+fn fingerprint(files: &[PathBuf], root: &Path) -> String {
     let mut hasher = DefaultHasher::new();
     let version = Command::new("rt").arg("version").output();
     version
         .map(|output| output.stdout)
         .unwrap_or_default()
         .hash(&mut hasher);
-    let mut next = sources(crates, root);
-    next.reverse();
-    while let Some(path) = next.pop() {
-        path.strip_prefix(root)
-            .expect("below the top")
-            .hash(&mut hasher);
-        if path.is_dir() {
-            let mut inside: Vec<PathBuf> = fs::read_dir(&path)
-                .expect("a folder of a crate")
-                .map(|entry| entry.expect("an entry").path())
-                .collect();
-            inside.sort();
-            next.extend(inside);
-        } else if path
-            .extension()
-            .is_some_and(|end| end == OsStr::new("rt") || end == OsStr::new("antt"))
-            || path.ends_with("crates.txt")
-        {
-            fs::read(&path).expect("a source").hash(&mut hasher);
-        }
+    for path in files {
+        below(path, root).hash(&mut hasher);
+        fs::read(path).expect("a source").hash(&mut hasher);
     }
     format!("{:016x}", hasher.finish())
 }
 
-fn hash(bytes: &[u8]) -> u64 {
-    let mut hasher = DefaultHasher::new();
-    bytes.hash(&mut hasher);
-    hasher.finish()
+/// Copies files to the same places below another root, where no others of the library are then.
+fn copy(files: &[PathBuf], root: &Path, own: &Path) {
+    let _ = fs::remove_dir_all(own.join("crates"));
+    for path in files {
+        let to = own.join(below(path, root));
+        fs::create_dir_all(to.parent().expect("a folder")).expect("a folder in cargo's folder");
+        // not its permissions, which may keep the next copy from being written
+        let bytes = fs::read(path).expect("a source");
+        fs::write(to, bytes).expect("a file in cargo's folder");
+    }
+}
+
+fn below<'a>(path: &'a Path, root: &Path) -> &'a Path {
+    path.strip_prefix(root).expect("below the top")
 }

@@ -1,4 +1,4 @@
-//! Writes a VHDX file whose log takes long to apply, and prints what `host/tests/kill-apply` watches: the offset of the first sector
+//! Writes a VHDX file whose log takes long to apply, and prints what `host/cli/tests/kill-apply` watches: the offset of the first sector
 //! that the log writes, that of the last one, and the file's length afterwards.
 //!
 //! The log zeros the same area again and again and puts other data into it now and then: more than a million sectors from a log

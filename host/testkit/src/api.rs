@@ -6,12 +6,6 @@ pub use vhdx_model::Sector;
 
 extern "C" {
     fn shrunvaki_bench_crc32c(bytes: *const u8, length: usize) -> u32;
-    fn shrunvaki_bench_plan(
-        buffer: *const u8,
-        capacity: usize,
-        length: u64,
-        answer: *mut u64,
-    ) -> u64;
     fn shrunvaki_bench_sector(
         buffer: *const u8,
         capacity: usize,
@@ -28,31 +22,9 @@ extern "C" {
     ) -> u64;
 }
 
-/// What the plan of a log's work is: a refusal's number, or the final length and the count of sectors to write.
-#[derive(Debug, PartialEq, Eq, Clone, Copy)]
-pub enum Plan {
-    Refused(u64),
-    Apply { length: u64, count: u64 },
-}
-
 pub fn crc32c(bytes: &[u8]) -> u32 {
     // SAFETY: the function reads `length` bytes from the pointer on, which are the slice's.
     unsafe { shrunvaki_bench_crc32c(bytes.as_ptr(), bytes.len()) }
-}
-
-/// Of the image that is the first `length` bytes of the buffer.
-pub fn plan(buffer: &[u8], length: u64) -> Plan {
-    let mut answer = [0u64; 2];
-    // SAFETY: as above; of the answer two numbers are written, which it has.
-    let refusal =
-        unsafe { shrunvaki_bench_plan(buffer.as_ptr(), buffer.len(), length, answer.as_mut_ptr()) };
-    match refusal {
-        0 => Plan::Apply {
-            length: answer[0],
-            count: answer[1],
-        },
-        _ => Plan::Refused(refusal),
-    }
 }
 
 /// Sector number k of the plan.

@@ -1,46 +1,18 @@
 //! Programs run by tests, and temporary folders for their files.
 use std::ffi::OsStr;
-use std::fs;
-use std::path::{Path, PathBuf};
-use std::process::{self, Command};
-use std::sync::atomic::{AtomicU64, Ordering};
+use std::path::PathBuf;
+use std::process::{Command, Output};
+
+pub use shrunvaki_scratch::Folder;
 
 /// A new folder that is removed when the test ends.
-pub struct Folder(PathBuf);
-
-impl Folder {
-    /// `name` tells the folders of different tests apart, for whoever looks while they run.
-    pub fn new(name: &str) -> Folder {
-        static NUMBER: AtomicU64 = AtomicU64::new(0);
-        let number = NUMBER.fetch_add(1, Ordering::Relaxed);
-        let name = format!("shrunvaki-{name}-{}-{number}", process::id());
-        let path = std::env::temp_dir().join(name);
-        fs::create_dir(&path).expect("a temporary folder");
-        Folder(path)
-    }
-
-    pub fn path(&self) -> &Path {
-        &self.0
-    }
-
-    /// The path of a file in it.
-    pub fn file(&self, name: &str) -> PathBuf {
-        self.0.join(name)
-    }
-
-    /// Writes a file in it.
-    pub fn write(&self, name: &str, bytes: &[u8]) -> PathBuf {
-        let path = self.file(name);
-        fs::write(&path, bytes).expect("a temporary file");
-        path
-    }
+pub fn folder(name: &str) -> Folder {
+    Folder::new(name).expect("a temporary folder")
 }
 
-impl Drop for Folder {
-    fn drop(&mut self) {
-        // a folder that is left behind is no failure of the test
-        let _ = fs::remove_dir_all(&self.0);
-    }
+/// Writes a file in a folder.
+pub fn write(folder: &Folder, name: &str, bytes: &[u8]) -> PathBuf {
+    folder.write(name, bytes).expect("a temporary file")
 }
 
 /// How a program ended and what it wrote.
@@ -73,11 +45,14 @@ pub fn run(program: impl AsRef<OsStr>, words: &[impl AsRef<OsStr>]) -> Ran {
 
 /// Runs a command that was made ready to its end.
 pub fn end(command: &mut Command) -> Ran {
-    let ran = command.output();
-    let ran = ran.unwrap_or_else(|error| panic!("{command:?}: {error}"));
+    let output = command.output();
+    ran(output.unwrap_or_else(|error| panic!("{command:?}: {error}")))
+}
+
+fn ran(output: Output) -> Ran {
     Ran {
-        status: ran.status.code(),
-        bytes: ran.stdout,
-        errors: String::from_utf8_lossy(&ran.stderr).into_owned(),
+        status: output.status.code(),
+        bytes: output.stdout,
+        errors: String::from_utf8_lossy(&output.stderr).into_owned(),
     }
 }

@@ -1,7 +1,9 @@
 //! What tests and benchmarks share: the proved functions with their answers taken apart, images with a pending log and the model
-//! of their replay, disks for lookups, random numbers, programs that tests run, and measuring.
+//! of their replay, disks for lookups, random numbers, programs that tests run and the JSON that they
+//! print, and measuring.
 pub mod api;
 pub mod command;
+pub mod json;
 pub mod measure;
 pub mod pending;
 pub mod random;

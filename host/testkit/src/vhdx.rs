@@ -1,8 +1,15 @@
 //! The library's calls as C programs see them, with every answer held to its form and taken apart into the model's types.
-use shrunvaki::raw;
+use shrunvaki::vhdx::raw;
 
-pub use shrunvaki::raw::Slots;
+pub use shrunvaki::vhdx::raw::Slots;
 pub use vhdx_model::{Attachment, Extent, Facts, Lookup, Stepped};
+
+/// What the plan of a log's work is: a refusal's number, or the final length and the count of sectors to write.
+#[derive(Debug, PartialEq, Eq, Clone, Copy)]
+pub enum Plan {
+    Refused(u64),
+    Apply { length: u64, count: u64 },
+}
 
 /// Has-parent's slot.
 pub const HAS_PARENT: usize = 7;
@@ -10,8 +17,8 @@ pub const HAS_PARENT: usize = 7;
 /// The facts of an answer, whose has-parent is 0 or 1.
 pub fn facts_in(slots: &Slots) -> Facts {
     assert!(slots[HAS_PARENT] < 2, "has-parent: {slots:?}");
-    let facts = shrunvaki::Facts::from_slots(slots);
-    let extent = |from: shrunvaki::Extent| Extent {
+    let facts = shrunvaki::vhdx::Facts::from_slots(slots);
+    let extent = |from: shrunvaki::vhdx::Extent| Extent {
         offset: from.offset,
         length: from.length,
     };
@@ -30,11 +37,11 @@ pub fn facts_in(slots: &Slots) -> Facts {
 
 /// The slots that hold no fact hold a number that none could be, so that a reader of them shows.
 pub fn slots_of(facts: &Facts) -> Slots {
-    let extent = |from: Extent| shrunvaki::Extent {
+    let extent = |from: Extent| shrunvaki::vhdx::Extent {
         offset: from.offset,
         length: from.length,
     };
-    let mut slots = shrunvaki::Facts {
+    let mut slots = shrunvaki::vhdx::Facts {
         logical_sector_size: facts.logical_sector_size,
         physical_sector_size: facts.physical_sector_size,
         block_size: facts.block_size,
@@ -95,6 +102,25 @@ pub fn attach_raw(buffer: &mut [u8], length: u64) -> Slots {
     let (refusal, answer) = raw::attach(buffer, length);
     assert_eq!(refusal, answer[0], "returned, and in the answer");
     answer
+}
+
+/// What attach would do. Asserts that the answer has the form that it has to have: the given length and no sectors with a refusal,
+/// and a zero in the last slot.
+pub fn plan(buffer: &[u8], length: u64) -> Plan {
+    let (refusal, answer) = raw::plan(buffer, length);
+    let [told, length_after, count, rest] = answer;
+    assert_eq!((refusal, 0), (told, rest), "returned, and in the answer");
+    assert!(refusal <= 8, "no refusal of a plan: {refusal}");
+    match refusal {
+        0 => Plan::Apply {
+            length: length_after,
+            count,
+        },
+        _ => {
+            assert_eq!((length_after, count), (length, 0), "beside a refusal");
+            Plan::Refused(refusal)
+        }
+    }
 }
 
 /// Does step k of the log's work alone.

@@ -1,0 +1,11 @@
+//! VHDX: an image in a buffer, what it is, where its sectors are, and why it is refused.
+mod facts;
+mod image;
+pub mod raw;
+mod refusal;
+mod ucs2;
+
+pub use facts::{Extent, Facts};
+pub use image::{Attachment, Image, Lookup, Plan};
+pub use refusal::Refusal;
+pub use ucs2::{from_ucs2, to_ucs2};

@@ -1,0 +1,75 @@
+//! The calls over slices and arrays of numbers, as `include/shrunvaki.h` says of them. [`super::Image`] is the same with names.
+//!
+//! Each hands back the number that the function returns, and its answer.
+use shrunvaki_sys as sys;
+
+/// What attach answers, and what lookup and parent key take: refusal, length, count, and the facts in slots 3 to 15.
+pub type Slots = [u64; 32];
+
+/// No answer holds it where it has to hold a zero: a slot that is not written shows.
+const UNWRITTEN: u64 = u64::MAX;
+
+/// Applies the log of the image that is the first `length` bytes of the buffer, and reads its tables.
+pub fn attach(buffer: &mut [u8], length: u64) -> (u64, Slots) {
+    let mut answer = [UNWRITTEN; 32];
+    // SAFETY: the function reads and writes `capacity` bytes from the pointer on, which are the slice's, and writes the answer.
+    let refusal = unsafe {
+        sys::shrunvaki_vhdx_attach(buffer.as_mut_ptr(), buffer.len(), length, &mut answer)
+    };
+    (refusal, answer)
+}
+
+/// What attach would do: refusal 1 to 8 or 0, final length, count of sectors, 0. Nothing is written.
+pub fn plan(buffer: &[u8], length: u64) -> (u64, [u64; 4]) {
+    let mut answer = [UNWRITTEN; 4];
+    // SAFETY: the function reads `capacity` bytes from the pointer on, which are the slice's, and writes the answer.
+    let refusal =
+        unsafe { sys::shrunvaki_vhdx_plan(buffer.as_ptr(), buffer.len(), length, &mut answer) };
+    (refusal, answer)
+}
+
+/// Does step `k` of the log's work alone: growth for 0, one sector for any other. Answers the refusal and the length.
+pub fn step(buffer: &mut [u8], length: u64, k: u64) -> (u64, [u64; 2]) {
+    let mut answer = [UNWRITTEN; 2];
+    // SAFETY: as for attach.
+    let refusal = unsafe {
+        sys::shrunvaki_vhdx_step(buffer.as_mut_ptr(), buffer.len(), length, k, &mut answer)
+    };
+    (refusal, answer)
+}
+
+/// Where a sector is: 0 refused, 1 in the file, 2 zero, 3 in the parent; then the refusal's number, the offset in the file, or 0.
+#[inline]
+pub fn lookup(facts: &Slots, buffer: &[u8], length: u64, sector: u64) -> (u64, [u64; 2]) {
+    let mut answer = [UNWRITTEN; 2];
+    // SAFETY: as for plan; the facts are read.
+    let refusal = unsafe {
+        sys::shrunvaki_vhdx_lookup(
+            facts,
+            buffer.as_ptr(),
+            buffer.len(),
+            length,
+            sector,
+            &mut answer,
+        )
+    };
+    (refusal, answer)
+}
+
+/// Where the value under a key of the parent locator is: offset from the image's start and length, 0 and 0 where there is none.
+pub fn parent_key(facts: &Slots, buffer: &[u8], length: u64, key: &[u8]) -> [u64; 2] {
+    let mut answer = [UNWRITTEN; 2];
+    // SAFETY: as for lookup; of the key `key_length` bytes are read, which it has.
+    unsafe {
+        sys::shrunvaki_vhdx_parent_key(
+            facts,
+            buffer.as_ptr(),
+            buffer.len(),
+            length,
+            key.as_ptr(),
+            key.len(),
+            &mut answer,
+        )
+    };
+    answer
+}

@@ -1,0 +1,117 @@
+//! A file in two buffers, one for the proved library and one for the model: every call is made on both, and both have to answer
+//! the same and leave the same bytes.
+use crate::tally::Tally;
+use shrunvaki_testkit::image::Image;
+use shrunvaki_testkit::pending::assert_same;
+use shrunvaki_testkit::vhdx::{self, Attachment, Extent, Facts, Lookup, Plan, Stepped};
+use vhdx_model as model;
+
+#[derive(Default)]
+pub struct Pair {
+    proved: Vec<u8>,
+    model: Vec<u8>,
+    /// Of the buffer that calls are given, which may be shorter than the ones here: what is past it is compared too.
+    capacity: usize,
+    pub length: u64,
+    pub tally: Tally,
+}
+
+impl Pair {
+    /// Takes up another file, in its whole buffer.
+    pub fn load(&mut self, image: &Image) {
+        self.load_with(&image.buffer, image.buffer.len() as u64, image.length);
+    }
+
+    /// Takes up another file, in the first `capacity` bytes of its buffer.
+    pub fn load_with(&mut self, buffer: &[u8], capacity: u64, length: u64) {
+        for copy in [&mut self.proved, &mut self.model] {
+            copy.clear();
+            copy.extend_from_slice(buffer);
+        }
+        (self.capacity, self.length) = (capacity as usize, length);
+        self.tally.files += 1;
+    }
+
+    /// The buffer that calls are given.
+    pub fn buffer(&self) -> &[u8] {
+        &self.model[..self.capacity]
+    }
+
+    /// Writes bytes that no call wrote: what an interrupted one left.
+    pub fn put(&mut self, at: usize, bytes: &[u8]) {
+        for copy in [&mut self.proved, &mut self.model] {
+            copy[at..at + bytes.len()].copy_from_slice(bytes);
+        }
+    }
+
+    /// The plan of the log's work, unless attach refuses.
+    pub fn plan(&self) -> Option<model::Plan> {
+        model::plan(self.buffer(), self.length).ok()
+    }
+
+    /// Attaches, and holds what is answered to what was planned.
+    #[track_caller]
+    pub fn attach(&mut self) -> Attachment {
+        let planned = vhdx::plan(&self.proved[..self.capacity], self.length);
+        let answer = vhdx::attach(&mut self.proved[..self.capacity], self.length);
+        let expected = model::attach(&mut self.model[..self.capacity], self.length);
+        assert_eq!(answer, expected, "attach at {}", self.length);
+        assert_same(&self.proved, &self.model, "after attach");
+        match planned {
+            Plan::Refused(number) => assert_eq!(number, answer.refusal, "planned"),
+            Plan::Apply { length, count } => {
+                assert_eq!((length, count), (answer.length, answer.count), "planned");
+                assert!(!(1..=8).contains(&answer.refusal), "none was planned");
+            }
+        }
+        self.follow(answer.refusal, answer.length);
+        answer
+    }
+
+    #[track_caller]
+    pub fn step(&mut self, k: u64) -> Stepped {
+        let answer = vhdx::step(&mut self.proved[..self.capacity], self.length, k);
+        let expected = model::step(&mut self.model[..self.capacity], self.length, k);
+        assert_eq!(answer, expected, "step {k} at {}", self.length);
+        assert_same(&self.proved, &self.model, "after a step");
+        self.follow(answer.refusal, answer.length);
+        answer
+    }
+
+    /// Attaches a file that is answered with a refusal, or 0, and asks for steps before that.
+    #[track_caller]
+    pub fn answers(&mut self, image: &Image, refusal: u64, name: &str) -> Attachment {
+        self.load(image);
+        for k in [1, u64::MAX, 0, 1, 2] {
+            self.step(k);
+        }
+        self.load(image);
+        let answer = self.attach();
+        assert_eq!(answer.refusal, refusal, "{name}");
+        answer
+    }
+
+    /// The next call gets the length that this one left.
+    fn follow(&mut self, refusal: u64, length: u64) {
+        self.tally.add(refusal);
+        self.length = length;
+    }
+
+    #[track_caller]
+    pub fn lookup(&mut self, facts: &Facts, sector: u64) -> Lookup {
+        let answer = vhdx::lookup(facts, &self.proved[..self.capacity], self.length, sector);
+        let expected = model::lookup(facts, self.buffer(), self.length, sector);
+        assert_eq!(answer, expected, "sector {sector} of {facts:?}");
+        self.tally.add_place(answer);
+        answer
+    }
+
+    #[track_caller]
+    pub fn parent_key(&mut self, facts: &Facts, key: &[u8]) -> Extent {
+        let answer = vhdx::parent_key(facts, &self.proved[..self.capacity], self.length, key);
+        let expected = model::parent_key(facts, self.buffer(), self.length, key);
+        assert_eq!(answer, expected, "key {key:?} of {facts:?}");
+        self.tally.add_value(answer);
+        answer
+    }
+}
