@@ -1,0 +1,201 @@
+//! `attach FILE`: what attach answers; the file is not changed.
+use crate::json::Object;
+use crate::output::{Output, Status, Stop};
+use crate::refused;
+use crate::source::{OnHost, Opened, Source};
+use crate::text::{grouped, size};
+use shrunvaki::vhdx::{Attachment, Extent, Facts};
+
+/// What became of the file's log.
+#[derive(Debug, PartialEq, Eq, Clone, Copy)]
+pub enum Log {
+    /// There is none, or it asks for nothing.
+    None,
+    /// It is in the file, and not applied to it now.
+    Pending,
+    /// It was applied to the file itself.
+    Applied,
+    /// Refusals 1 to 8 say why it is not known, or cannot be applied.
+    Unknown,
+}
+
+/// What is to be told of a file.
+pub struct Report<'a> {
+    pub opened: &'a Opened,
+    pub attachment: Attachment,
+    pub host: OnHost,
+    pub log: Log,
+}
+
+pub fn run(source: &Source, out: &mut Output) -> Result<Status, Stop> {
+    let opened = source.open()?;
+    Report::in_memory(&opened)?.print(out)
+}
+
+impl<'a> Report<'a> {
+    /// What attach answers, with the log applied in memory alone.
+    pub fn in_memory(opened: &'a Opened) -> Result<Report<'a>, Stop> {
+        let (_, attachment) = opened.attach()?;
+        let log = match &attachment {
+            Attachment {
+                facts: Err(refusal),
+                ..
+            } if refusal.is_before_the_log() => Log::Unknown,
+            Attachment {
+                count: 0, length, ..
+            } if *length == opened.length => Log::None,
+            _ => Log::Pending,
+        };
+        Report::new(opened, attachment, log)
+    }
+
+    pub fn new(opened: &'a Opened, attachment: Attachment, log: Log) -> Result<Report<'a>, Stop> {
+        let host = opened.on_host()?;
+        Ok(Report {
+            opened,
+            attachment,
+            host,
+            log,
+        })
+    }
+
+    pub fn print(&self, out: &mut Output) -> Result<Status, Stop> {
+        if out.json {
+            out.line(&self.object().finish())?;
+        } else {
+            for line in self.lines() {
+                out.line(&line)?;
+            }
+        }
+        Ok(match self.attachment.facts {
+            Ok(_) => Status::Answered,
+            Err(_) => Status::Refused,
+        })
+    }
+
+    /// What people come for stands first.
+    fn lines(&self) -> Vec<String> {
+        let mut lines = vec![format!("file: {}", self.opened.name)];
+        match &self.attachment.facts {
+            Ok(facts) => {
+                lines.push(format!("size to charge: {}", size(facts.disk_size)));
+                lines.push(format!("kind: {}", kind(facts)));
+            }
+            Err(refusal) => lines.extend(refused::lines(self.opened, *refusal)),
+        }
+        lines.extend(self.log_line());
+        lines.push(format!("length of the file: {}", size(self.host.length)));
+        lines.push(format!(
+            "allocated on the host: {}",
+            size(self.host.allocated)
+        ));
+        lines.push(format!("capacity: {}", size(self.opened.capacity)));
+        lines.extend(self.attachment.facts.iter().flat_map(facts_lines));
+        lines
+    }
+
+    fn log_line(&self) -> Option<String> {
+        let Attachment { length, count, .. } = self.attachment;
+        Some(match self.log {
+            Log::Unknown => return None,
+            Log::None => "log: none".to_string(),
+            Log::Applied => {
+                "log: applied just now; it stays in the file until the log is closed".to_string()
+            }
+            Log::Pending if length == self.opened.length => {
+                format!(
+                    "log: pending, {} sectors to write; the file keeps its length",
+                    grouped(count)
+                )
+            }
+            Log::Pending => format!(
+                "log: pending, {} sectors to write; the file grows to {}",
+                grouped(count),
+                size(length)
+            ),
+        })
+    }
+
+    pub fn object(&self) -> Object {
+        let facts = self.attachment.facts.as_ref();
+        let object = Object::about(&self.opened.name);
+        let object = match facts {
+            Ok(facts) => object
+                .number("size_to_charge", facts.disk_size)
+                .text("kind", kind(facts)),
+            Err(_) => object.null("size_to_charge").null("kind"),
+        };
+        let object = match self.log {
+            Log::Unknown => object.null("log"),
+            Log::None => object.text("log", "none"),
+            Log::Pending => object.text("log", "pending"),
+            Log::Applied => object.text("log", "applied"),
+        };
+        let object = object
+            .number("given_length", self.opened.length)
+            .number("capacity", self.opened.capacity)
+            .number("length", self.attachment.length)
+            .number("sectors", self.attachment.count)
+            .number("allocated", self.host.allocated)
+            .boolean("locked_by_another", self.opened.locked_by_another);
+        match facts {
+            Ok(facts) => object.null("refusal").object("facts", facts_object(facts)),
+            Err(refusal) => object
+                .object("refusal", refused::object_of(self.opened, *refusal))
+                .null("facts"),
+        }
+    }
+}
+
+/// As far as the facts tell: whether blocks are allocated in advance is not among them.
+fn kind(facts: &Facts) -> &'static str {
+    match facts.has_parent {
+        true => "differencing",
+        false => "fixed or dynamic",
+    }
+}
+
+/// The facts as JSON.
+fn facts_object(facts: &Facts) -> Object {
+    let extent = |extent: Extent| {
+        Object::new()
+            .number("offset", extent.offset)
+            .number("length", extent.length)
+    };
+    let object = Object::new()
+        .number("disk_size", facts.disk_size)
+        .number("logical_sector_size", facts.logical_sector_size)
+        .number("physical_sector_size", facts.physical_sector_size)
+        .number("block_size", facts.block_size)
+        .boolean("has_parent", facts.has_parent)
+        .text("disk_id", &facts.disk_id_text())
+        .object("bat", extent(facts.bat))
+        .object("metadata", extent(facts.metadata));
+    match facts.has_parent {
+        true => object.object("locator", extent(facts.locator)),
+        false => object.null("locator"),
+    }
+}
+
+/// The facts as text, a line each.
+fn facts_lines(facts: &Facts) -> Vec<String> {
+    let extent = |extent: Extent| {
+        format!(
+            "{}, from byte {} on",
+            size(extent.length),
+            grouped(extent.offset)
+        )
+    };
+    let mut lines = vec![
+        format!("logical sector size: {}", size(facts.logical_sector_size)),
+        format!("physical sector size: {}", size(facts.physical_sector_size)),
+        format!("block size: {}", size(facts.block_size)),
+        format!("disk identifier: {}", facts.disk_id_text()),
+        format!("block allocation table: {}", extent(facts.bat)),
+        format!("metadata: {}", extent(facts.metadata)),
+    ];
+    if facts.has_parent {
+        lines.push(format!("parent locator: {}", extent(facts.locator)));
+    }
+    lines
+}
