@@ -8,8 +8,9 @@
 #include <stdio.h>
 #include <stdlib.h>
 
-/* How much a pending log may grow the image by. */
+/* How much a pending log may grow the image by, and how many sectors it may have written: a hostile one names billions. */
 #define GROWTH ((size_t)64 << 20)
+#define MAX_SECTORS ((uint64_t)1 << 20)
 
 int main(int argc, char **argv)
 {
@@ -27,12 +28,18 @@ int main(int argc, char **argv)
     }
     fclose(file);
 
+    uint64_t plan[4];
+    shrunvaki_vhdx_plan(buffer, capacity, (uint64_t)size, plan);
+    if (plan[SHRUNVAKI_COUNT] > MAX_SECTORS) {
+        printf("its log asks for %" PRIu64 " sectors to be written\n", plan[SHRUNVAKI_COUNT]);
+        return 1;
+    }
     uint64_t disk[SHRUNVAKI_SLOTS];
     uint64_t refusal = shrunvaki_vhdx_attach(buffer, capacity, (uint64_t)size, disk);
     printf("length: %" PRIu64 "\n", disk[SHRUNVAKI_LENGTH]);
     printf("sectors written: %" PRIu64 "\n", disk[SHRUNVAKI_COUNT]);
     if (refusal) {
-        printf("refused: %" PRIu64 "\n", refusal);
+        printf("refused: %" PRIu64 ": %s\n", refusal, shrunvaki_vhdx_refusal_text(refusal));
         return 1;
     }
     printf("disk size: %" PRIu64 "\n", disk[SHRUNVAKI_DISK_SIZE]);
@@ -44,7 +51,7 @@ int main(int argc, char **argv)
     case SHRUNVAKI_FILE: printf("sector 0: in the file at %" PRIu64 "\n", place[1]); break;
     case SHRUNVAKI_ZERO: puts("sector 0: zero"); break;
     case SHRUNVAKI_PARENT: puts("sector 0: in the parent"); break;
-    default: printf("sector 0: refused, %" PRIu64 "\n", place[1]);
+    default: printf("sector 0: refused, %" PRIu64 ": %s\n", place[1], shrunvaki_vhdx_refusal_text(place[1]));
     }
     free(buffer);
     return 0;
