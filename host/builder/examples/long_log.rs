@@ -1,31 +1,27 @@
-//! Writes a VHDX file whose log takes long to apply, and prints what `host/cli/tests/kill-apply` watches: the offset of the first sector
-//! that the log writes, that of the last one, and the file's length afterwards.
+//! Writes a VHDX file whose log takes long to apply, and prints what `host/cli/tests/kill-apply` watches: the lowest sector that the
+//! log writes, the highest, and the file's length afterwards.
 //!
-//! The log zeros the same area again and again and puts other data into it now and then: more than a million sectors from a log
-//! of 1 MiB, and at nearly every moment in between the area is not what it will be. The first sector is new from the first step
-//! on, the last one old until the last step.
+//! The log zeros a large area of the file again and again and puts other data into it now and then. The command writes a file's
+//! sectors from the lowest on: the first is the BAT's, the last the area's.
 use std::process::ExitCode;
 use vhdx_builder::image::{Descriptor, Entry, Image, GUID, MIB, SECTOR};
 use vhdx_builder::sample::{sector_with, small_blocks};
 
 const M: u64 = MIB as u64;
 
-/// The start of the first block of the disk: the first sector that the log writes.
-const FIRST: u64 = 4 * M;
+/// The start of the BAT, which gives the disk its blocks.
+const FIRST: u64 = 3 * M;
 
-/// The start of the BAT, which gives the disk its blocks: the last sector that the log writes.
-const LAST: u64 = 3 * M;
+/// Where the log writes, and how many bytes; all of it is in the file.
+const AREA: u64 = 4 * M;
+const AREA_LENGTH: u64 = 128 * M;
+const LAST: u64 = AREA + AREA_LENGTH - SECTOR as u64;
 
-/// Where the log writes in between, and how many bytes. The file ends in the middle of it.
-const AREA: u64 = 5 * M;
-const AREA_LENGTH: u64 = 16 * M;
+const LENGTH: u64 = AREA + AREA_LENGTH;
+const FINAL_LENGTH: u64 = LENGTH + M;
 
-const LENGTH: u64 = AREA + AREA_LENGTH / 2;
-const FINAL_LENGTH: u64 = AREA + AREA_LENGTH + M;
-
-/// Log entries, each of which zeros the area so many times and then writes so many data sectors into it.
-const ROUNDS: u64 = 48;
-const PASSES: usize = 8;
+/// Log entries, each of which zeros the area and then writes so many data sectors into it.
+const ROUNDS: u64 = 2;
 const DATA: u64 = 3;
 
 /// The log's entries, each with its first sector in the ring.
@@ -45,25 +41,21 @@ fn entries() -> Vec<(usize, Entry)> {
 }
 
 fn descriptors(round: u64) -> Vec<Descriptor> {
-    let mut all = Vec::new();
-    if round == 0 {
-        all.push(data(FIRST, b"The first sector of the log's work".to_vec()));
-    }
-    let zeros = Descriptor::Zero {
+    let mut all = vec![Descriptor::Zero {
         offset: AREA,
         length: AREA_LENGTH,
-    };
-    all.extend(vec![zeros; PASSES]);
+    }];
     for i in 0..DATA {
         // about a third of the area apart and other places in every round
-        let sector = (round * DATA + i) * 1367 % (AREA_LENGTH / SECTOR as u64);
+        let sector = (round * DATA + i) * 10923 % (AREA_LENGTH / SECTOR as u64);
         let text = format!("Round {round}, sector {i}");
         all.push(data(AREA + sector * SECTOR as u64, text.into_bytes()));
     }
+    all.push(data(LAST, format!("Round {round}, the last").into_bytes()));
     if round == ROUNDS - 1 {
-        let blocks = (FINAL_LENGTH - FIRST) / M;
-        let bat = (0..blocks).flat_map(|block| ((FIRST + block * M) | 6).to_le_bytes());
-        all.push(data(LAST, bat.collect()));
+        let blocks = (FINAL_LENGTH - AREA).min(64 * M) / M;
+        let bat = (0..blocks).flat_map(|block| ((AREA + block * M) | 6).to_le_bytes());
+        all.push(data(FIRST, bat.collect()));
     }
     all
 }
@@ -79,7 +71,7 @@ fn data(offset: u64, start: Vec<u8>) -> Descriptor {
 fn image() -> Image {
     let mut image = Image::new(LENGTH as usize, LENGTH, MIB, GUID);
     image.tables(&small_blocks());
-    image.buffer[FIRST as usize..].fill(0xee);
+    image.buffer[AREA as usize..].fill(0xee);
     for (sector, entry) in entries() {
         image.entry(sector, &entry);
     }

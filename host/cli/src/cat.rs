@@ -42,10 +42,7 @@ fn write_all(disk: &Disk, range: Range, out: &mut Output) -> Result<Status, Stop
     let stopped = runs.try_for_each(|run| {
         let length = run.count.saturating_mul(sector_size);
         match run.answer {
-            Ok(Lookup::File(offset)) => {
-                let bytes = &disk.image.bytes()[offset as usize..][..length as usize];
-                pieces.file(bytes).map_err(Err)
-            }
+            Ok(Lookup::File(offset)) => pieces.file(disk, offset, length).map_err(Err),
             Ok(Lookup::Zero) => pieces.zeros(length).map_err(Err),
             // the run that the command stops at
             _ => Err(Ok(run)),
@@ -67,8 +64,20 @@ struct Pieces<'a> {
 }
 
 impl Pieces<'_> {
-    fn file(&mut self, bytes: &[u8]) -> Result<(), Stop> {
-        for piece in bytes.chunks(PIECE) {
+    /// So many bytes of the file, from an offset on.
+    fn file(&mut self, disk: &Disk, offset: u64, length: u64) -> Result<(), Stop> {
+        let gone = |error: io::Error| {
+            let why = match error.kind() {
+                io::ErrorKind::UnexpectedEof => "became shorter while it was in use".to_string(),
+                _ => error.to_string(),
+            };
+            Stop::failed(format!("{}: {why}", disk.name))
+        };
+        let mut bytes = vec![0; PIECE];
+        let mut at = offset;
+        while at < offset + length {
+            let piece = &mut bytes[..PIECE.min((offset + length - at) as usize)];
+            disk.image.buffer().read(at as usize, piece).map_err(gone)?;
             if self.out.json {
                 self.out.bytes(hex(piece).as_bytes())?;
             } else if piece == &ZEROS[..piece.len()] {
@@ -76,6 +85,7 @@ impl Pieces<'_> {
             } else {
                 self.out.bytes(piece)?;
             }
+            at += piece.len() as u64;
             self.told(piece.len() as u64);
         }
         Ok(())

@@ -115,14 +115,17 @@ fn apply_quietly(source: &Source) -> Result<(), Stop> {
 fn crash(source: &Source) -> Result<(), Stop> {
     let refused = |refusal| Stop::failed(format!("a step was refused: {refusal}"));
     let opened = source.open_exclusive(false)?;
-    let length = opened.private()?.step(0).map_err(refused)?;
-    let mut image = opened.grown(length)?;
-    for k in 1..=WRITTEN {
-        image.step(k).map_err(refused)?;
+    let mut image = opened.image()?;
+    let mut length = 0;
+    for k in 0..=WRITTEN {
+        length = image.step(k).map_err(refused)?;
     }
+    let mut buffer = image.into_buffer();
     let torn = sample::BLOCK as usize + (WRITTEN as usize - 1) * SECTOR;
-    image.into_buffer().as_mut()[torn..torn + SECTOR / 2].fill(b'?');
-    Ok(())
+    buffer.as_mut()[torn..torn + SECTOR / 2].fill(b'?');
+    opened.grow(length)?;
+    let written = buffer.write_to(&opened.file, length, |_| {});
+    written.map_err(|error| failed(Path::new(&source.path), error))
 }
 
 fn same_bytes(one: &Source, other: &Source) -> Result<bool, Stop> {

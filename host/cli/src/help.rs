@@ -50,11 +50,12 @@ shrunvaki attach --apply FILE [--wait] [--capacity BYTES] [--max-sectors N]
                  [--json]
 
 Does the same to the file itself. It takes an exclusive lock (--wait waits for
-another program's), decides first, prints how many sectors it will write and how
-far the file will grow, extends the file to exactly that length, applies the
-log, and flushes. With refusals 1 to 8 the file is not touched. Refusals 9 to 15
-are of the tables, and come after the log: the log is applied then too. It warns
-where a virtual machine of qemu's has the file open for writing.
+another program's), decides first, prints how many sectors the log writes and
+how far the file will grow, applies the log in memory, extends the file to
+exactly that length, writes each sector that has changed, and flushes. With
+refusals 1 to 8 the file is not touched. Refusals 9 to 15 are of the tables, and
+come after the log: the log is applied then too. It warns where a virtual
+machine of qemu's has the file open for writing.
 
 Killed at any moment, it can be run again: the file is then what an undisturbed
 run would have made it. That is proved of a process that is killed, which tears

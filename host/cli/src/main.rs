@@ -1,7 +1,7 @@
 //! The command `shrunvaki`: what a VHDX file from a stranger is, answered by the proved library.
 //!
 //! A module a command; `arguments` and `help` are what a user writes and reads, `output`, `json`, `text` and `refused` what is
-//! printed, `source` a file in a buffer under a `lock`, `foreign` files of other formats, `runs` the disk's sectors run by run,
+//! printed, `source` a file under a `lock` in a `snapshot`, `foreign` files of other formats, `runs` the disk's sectors run by run,
 //! `progress` the line on long work, `os` what the standard library lacks.
 mod apply;
 mod arguments;
@@ -20,6 +20,7 @@ mod parent;
 mod progress;
 mod refused;
 mod runs;
+mod snapshot;
 mod source;
 mod text;
 

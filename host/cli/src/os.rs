@@ -1,6 +1,8 @@
 //! What the standard library lacks of the operating system: signals, some flags of open files, and locks of other kinds.
 //!
 //! The numbers are those of Linux on x86-64; `tests/numbers.rs` compares them with the C library's.
+use crate::output::failure_line;
+use crate::text::Name;
 use std::ffi::{c_int, c_short, c_void};
 use std::os::fd::{AsRawFd, BorrowedFd};
 use std::sync::atomic::{AtomicBool, Ordering};
@@ -13,7 +15,6 @@ extern "C" {
     fn _exit(status: c_int) -> !;
 }
 
-const SIGBUS: c_int = 7;
 const SIGXFSZ: c_int = 25;
 const SIG_IGN: usize = 1;
 const F_GETFD: c_int = 1;
@@ -28,30 +29,49 @@ const O_APPEND: c_int = 0o2000;
 const STANDARD_OUTPUT: c_int = 1;
 const STANDARD_ERROR: c_int = 2;
 
-/// What is said where the file's bytes are gone.
-struct Message {
+/// Why a file that is in use cannot be used any more.
+#[derive(Debug, PartialEq, Eq, Clone, Copy)]
+pub enum Lost {
+    /// It became shorter, or cannot be read.
+    File,
+    /// Its pages cannot be had in memory.
+    Memory,
+}
+
+/// What is said then: on standard error, and as an object.
+struct Words {
     errors: String,
     object: String,
 }
 
-static MESSAGE: OnceLock<Message> = OnceLock::new();
+static WORDS: OnceLock<[Words; 2]> = OnceLock::new();
 
 /// Whether an object that tells an error may be printed: the answer is to be JSON, and nothing of it is printed yet.
 pub static OBJECT_FITS: AtomicBool = AtomicBool::new(false);
 
-/// A mapped file that becomes shorter, or whose disk is full or fails, shows by a signal where its bytes are touched. The command
-/// then ends with these words on standard error, the object on standard output if it fits there, and status 2. They are set once a
-/// process, for its first file.
-pub fn say_on_bus_error(errors: String, object: String) {
-    MESSAGE.get_or_init(|| Message { errors, object });
-    // SAFETY: the handler does nothing but what a signal handler may: it reads what was set before, writes, and exits.
-    unsafe { signal(SIGBUS, on_bus_error as *const () as usize) };
+/// Sets what is said where the file with this name is lost. Once a process, for its first file: a command has one.
+pub fn set_words(name: &Name) {
+    WORDS.get_or_init(|| {
+        [
+            "became shorter while it was in use, or cannot be read any more",
+            "its pages cannot be had in memory: too many places of it are in use, or there is no memory left",
+        ]
+        .map(|why| {
+            let message = format!("{name}: {why}");
+            Words {
+                object: failure_line(&message),
+                errors: format!("shrunvaki: {message}\n"),
+            }
+        })
+    });
 }
 
-extern "C" fn on_bus_error(_: c_int) {
-    // SAFETY: the bytes are the message's; the process ends here, with nothing of it run.
+/// Ends the process with status 2. A signal handler may do this.
+pub fn end_when_lost(lost: Lost) -> ! {
+    // SAFETY: the bytes are those of the words, which were set before; the process ends here, with nothing of it run.
     unsafe {
-        if let Some(Message { errors, object }) = MESSAGE.get() {
+        if let Some(words) = WORDS.get() {
+            let Words { errors, object } = &words[lost as usize];
             write(STANDARD_ERROR, errors.as_ptr().cast(), errors.len());
             if OBJECT_FITS.load(Ordering::Relaxed) {
                 write(STANDARD_OUTPUT, object.as_ptr().cast(), object.len());

@@ -49,16 +49,11 @@ impl Stop {
     }
 }
 
-/// What the operating system says of bytes that it was to write and that are no longer there.
-const BAD_ADDRESS: i32 = 14;
-
 /// Of writing the output: errors of files are given words where they arise.
 impl From<io::Error> for Stop {
     fn from(error: io::Error) -> Stop {
         if error.kind() == io::ErrorKind::BrokenPipe {
             Stop::ClosedPipe
-        } else if error.raw_os_error() == Some(BAD_ADDRESS) {
-            Stop::failed("the file became shorter while it was in use")
         } else {
             Stop::failed(format!("cannot write the output: {error}"))
         }

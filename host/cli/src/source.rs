@@ -1,19 +1,18 @@
 //! A VHDX file, opened and locked, in a buffer.
 use crate::lock;
-use crate::os::say_on_bus_error;
-use crate::output::{failure_line, Output, Status, Stop};
+use crate::os::set_words;
+use crate::output::{Output, Status, Stop};
 use crate::progress::timed;
 use crate::refused;
+use crate::snapshot::Snapshot;
 use crate::text::{size, Name};
-use shrunvaki::mapping::{open_regular, Mapping, MappingMut};
-use shrunvaki::vhdx::{Attachment, Facts, Image, Plan, Refusal};
+use shrunvaki::mapping::open_regular;
+use shrunvaki::vhdx::{Attachment, Facts, Image, Plan};
 use std::ffi::OsString;
 use std::fs::{File, OpenOptions};
 use std::io::{self, ErrorKind};
 use std::os::unix::fs::MetadataExt;
 use std::path::Path;
-use std::thread;
-use std::time::Duration;
 
 /// What a log may grow a file by where the user does not say.
 const GROWTH: u64 = 1 << 30;
@@ -21,8 +20,6 @@ const GROWTH: u64 = 1 << 30;
 /// How many sectors a log may have written where the user does not say: 4 GiB. A log of 64 MiB holds less than 16,384 data
 /// sectors. To meet this, one would have to zero sixteen blocks of the largest size, 256 MiB, at once.
 pub const MAX_SECTORS: u64 = 1 << 20;
-
-const LEASE_TICK: Duration = Duration::from_millis(50);
 
 /// Of a sector of the log's.
 const SECTOR: u64 = 4096;
@@ -53,15 +50,14 @@ impl Source {
     pub fn open(&self) -> Result<Opened, Stop> {
         let file = self.open_file(OpenOptions::new().read(true))?;
         let locked = lock::to_read(&file, &self.name());
-        self.opened(file, locked, "")
+        self.opened(file, locked)
     }
 
     /// Opens the file to be written, under an exclusive lock.
     pub fn open_exclusive(&self, wait: bool) -> Result<Opened, Stop> {
         let file = self.open_file(OpenOptions::new().read(true).write(true))?;
         lock::to_write(&file, &self.name(), wait)?;
-        let rest = "; what was applied stays applied, and applying again does the rest";
-        self.opened(file, false, rest)
+        self.opened(file, false)
     }
 
     /// Attaches the file in memory and goes on with the disk, or says that the file is refused.
@@ -79,23 +75,9 @@ impl Source {
         }
     }
 
-    /// A lease of another process's ends when the kernel has given that process its time, 45 seconds: no lease keeps a file from
-    /// being charged.
     fn open_file(&self, options: &mut OpenOptions) -> Result<File, Stop> {
-        let path = Path::new(&self.path);
-        let mut opened = open_regular(path, options);
-        if is_leased(&opened) {
-            opened = timed(
-                "waiting for another program to give up its lease",
-                || loop {
-                    thread::sleep(LEASE_TICK);
-                    let opened = open_regular(path, options);
-                    if !is_leased(&opened) {
-                        break opened;
-                    }
-                },
-            );
-        }
+        // a lease of another program's is waited for
+        let opened = timed("opening", || open_regular(Path::new(&self.path), options));
         opened.map_err(|error| {
             let why = match error.kind() {
                 ErrorKind::IsADirectory => "is a directory".to_string(),
@@ -106,16 +88,12 @@ impl Source {
         })
     }
 
-    /// `rest`: what is to be said more where the file's bytes are gone while it is in use.
-    fn opened(&self, file: File, locked_by_another: bool, rest: &str) -> Result<Opened, Stop> {
+    fn opened(&self, file: File, locked_by_another: bool) -> Result<Opened, Stop> {
         let name = self.name();
         let length = (file.metadata())
             .map_err(|error| Stop::failed(format!("{name}: {error}")))?
             .len();
-        let gone = format!(
-            "{name}: became shorter while it was in use, or its disk is full or failing{rest}"
-        );
-        say_on_bus_error(format!("shrunvaki: {gone}\n"), failure_line(&gone));
+        set_words(&name);
         Ok(Opened {
             name,
             file,
@@ -126,10 +104,6 @@ impl Source {
             locked_by_another,
         })
     }
-}
-
-fn is_leased(opened: &io::Result<File>) -> bool {
-    matches!(opened, Err(error) if error.kind() == ErrorKind::WouldBlock)
 }
 
 /// The file's length is that under the lock.
@@ -146,8 +120,8 @@ pub struct Opened {
 
 impl Opened {
     /// What attach answers, once its work is known to be no more than is allowed; and the image then. The file is not changed.
-    pub fn attach(&self) -> Result<(Image<MappingMut>, Attachment), Stop> {
-        let mut image = self.private()?;
+    pub fn attach(&self) -> Result<(Image<Snapshot>, Attachment), Stop> {
+        let mut image = self.image()?;
         if let Ok(plan) = image.plan() {
             self.allow(&plan)?;
         }
@@ -155,20 +129,8 @@ impl Opened {
         Ok((image, attachment))
     }
 
-    /// What attach would do, if that is no more than is allowed.
-    pub fn plan(&self) -> Result<Result<Plan, Refusal>, Stop> {
-        // SAFETY: as for the private mapping below.
-        let buffer = unsafe { Mapping::read_only(&self.file, self.length, self.capacity) };
-        let buffer = buffer.map_err(|error| self.cannot_map(&error))?;
-        let planned = Image::new(buffer, self.length).plan();
-        if let Ok(plan) = &planned {
-            self.allow(plan)?;
-        }
-        Ok(planned)
-    }
-
-    /// Growth is work too: zeros are written from the file's end on.
-    fn allow(&self, plan: &Plan) -> Result<(), Stop> {
+    /// That a plan is no more than is allowed. Growth is work too: zeros are written from the file's end on.
+    pub fn allow(&self, plan: &Plan) -> Result<(), Stop> {
         let growth = (plan.length - self.length).div_ceil(SECTOR);
         let sectors = plan.count.saturating_add(growth);
         if sectors <= self.max_sectors {
@@ -181,36 +143,28 @@ impl Opened {
         })
     }
 
-    /// The file in a buffer of the capacity, for changes that stay in memory.
-    pub fn private(&self) -> Result<Image<MappingMut>, Stop> {
-        // SAFETY: the file's lock asks others not to write meanwhile; README.md says what holds where they do.
-        let buffer = unsafe { MappingMut::private(&self.file, self.length, self.capacity) };
+    /// The file in a buffer of the capacity.
+    pub fn image(&self) -> Result<Image<Snapshot>, Stop> {
+        let buffer = Snapshot::new(&self.file, self.length, self.capacity);
         let buffer = buffer.map_err(|error| self.cannot_map(&error))?;
         Ok(Image::new(buffer, self.length))
     }
 
-    /// The file itself in a buffer of the capacity, once it is extended with zeros to this length.
-    pub fn grown(&self, length: u64) -> Result<Image<MappingMut>, Stop> {
-        if length > self.length {
-            self.file.set_len(length).map_err(|error| {
-                Stop::failed(format!(
-                    "{}: cannot grow to {}: {error}",
-                    self.name,
-                    size(length)
-                ))
-            })?;
+    /// Extends the file with zeros.
+    pub fn grow(&self, length: u64) -> Result<(), Stop> {
+        if length <= self.length {
+            return Ok(());
         }
-        // SAFETY: as above.
-        let buffer = unsafe { MappingMut::shared(&self.file, length, self.capacity) };
-        let buffer = buffer.map_err(|error| self.cannot_map(&error))?;
-        Ok(Image::new(buffer, length))
+        self.file.set_len(length).map_err(|error| {
+            let (name, length) = (&self.name, size(length));
+            Stop::failed(format!("{name}: cannot grow to {length}: {error}"))
+        })
     }
 
     fn cannot_map(&self, error: &io::Error) -> Stop {
         let (name, capacity) = (&self.name, size(self.capacity));
         let limit = "than this process may have (its address space, or ulimit -v)";
-        // SAFETY: the mapping is gone before anything is read.
-        let alone = unsafe { MappingMut::private(&self.file, self.length, self.length) };
+        let alone = Snapshot::new(&self.file, self.length, self.length);
         Stop::failed(if !self.by_default {
             format!("{name}: cannot have a buffer of {capacity}, more {limit}: give less with --capacity ({error})")
         } else if alone.is_err() {
@@ -248,6 +202,6 @@ pub struct OnHost {
 /// A file that was attached in memory.
 pub struct Disk<'a> {
     pub name: &'a Name,
-    pub image: Image<MappingMut>,
+    pub image: Image<Snapshot>,
     pub facts: Facts,
 }

@@ -4,14 +4,17 @@ use std::fs;
 use std::path::Path;
 
 /// Where they stand, from this package on.
-const SOURCES: [&str; 3] = [
+const SOURCES: [&str; 4] = [
     "src/os.rs",
+    "src/snapshot.rs",
     "../wrapper/src/mapping.rs",
     "../scratch/src/signals.rs",
 ];
 
 /// How C's names for such numbers begin.
-const PREFIXES: [&str; 7] = ["SIG", "F_", "O_", "PROT_", "MAP_", "MS_", "SEEK_"];
+const PREFIXES: [&str; 9] = [
+    "SIG", "F_", "O_", "PROT_", "MAP_", "MS_", "SEEK_", "SA_", "EINTR",
+];
 
 /// Name and value of each, as C writes them.
 fn numbers(source: &str) -> Vec<(String, String)> {
@@ -38,11 +41,13 @@ fn numbers_are_the_c_librarys() {
     }
     let program = format!(
         r#"#define _GNU_SOURCE
+#include <errno.h>
 #include <fcntl.h>
 #include <signal.h>
 #include <stddef.h>
 #include <stdio.h>
 #include <sys/mman.h>
+#include <ucontext.h>
 
 #define CHECK(name, value) \
     if ((long)(name) != (long)(value)) printf("%s is %ld, not %ld\n", #name, (long)(name), (long)(value))
@@ -54,6 +59,11 @@ int main(void)
     CHECK(offsetof(struct flock, l_start), 8);
     CHECK(offsetof(struct flock, l_len), 16);
     CHECK(offsetof(struct flock, l_pid), 24);
+    CHECK(sizeof(struct sigaction), 152);
+    CHECK(offsetof(struct sigaction, sa_mask), 8);
+    CHECK(offsetof(struct sigaction, sa_flags), 136);
+    CHECK(offsetof(siginfo_t, si_addr), 16);
+    CHECK(offsetof(ucontext_t, uc_mcontext.gregs[REG_ERR]), 192);
     return 0;
 }}
 "#

@@ -40,14 +40,30 @@ const MAP_NORESERVE: c_int = 0x4000;
 const MS_SYNC: c_int = 4;
 const O_NONBLOCK: c_int = 0o4000;
 const O_NOCTTY: c_int = 0o400;
+const O_PATH: c_int = 0o10000000;
 
 /// Opens a regular file. Whatever else is at the path is opened without waiting and looked at then, so that an exchange in between
 /// cannot make a program wait for somebody at the other end of a pipe: it is an error, [`ErrorKind::IsADirectory`] or
 /// [`ErrorKind::InvalidInput`].
 ///
-/// Where another process holds a lease on the file it is [`ErrorKind::WouldBlock`], and the lease is being broken: try again.
+/// Where another process holds a lease on the file this waits for its end, which the kernel brings about in 45 seconds.
 pub fn open_regular(path: impl AsRef<Path>, options: &mut OpenOptions) -> io::Result<File> {
-    let file = options.custom_flags(O_NONBLOCK | O_NOCTTY).open(path)?;
+    let path = path.as_ref();
+    let mut opened = options.custom_flags(O_NONBLOCK | O_NOCTTY).open(path);
+    if matches!(&opened, Err(error) if error.kind() == ErrorKind::WouldBlock) {
+        // waiting, but for the file itself: nothing can be put in its place
+        let mut handle = OpenOptions::new();
+        let handle = handle.read(true).custom_flags(O_PATH).open(path)?;
+        let path = format!("/proc/self/fd/{}", handle.as_raw_fd());
+        check_regular(&handle)?;
+        opened = options.custom_flags(O_NOCTTY).open(path);
+    }
+    let file = opened?;
+    check_regular(&file)?;
+    Ok(file)
+}
+
+fn check_regular(file: &File) -> io::Result<()> {
     let kind = file.metadata()?.file_type();
     if kind.is_dir() {
         return Err(ErrorKind::IsADirectory.into());
@@ -55,7 +71,7 @@ pub fn open_regular(path: impl AsRef<Path>, options: &mut OpenOptions) -> io::Re
     if !kind.is_file() {
         return Err(ErrorKind::InvalidInput.into());
     }
-    Ok(file)
+    Ok(())
 }
 
 /// A buffer whose first bytes are a file's, to be read.

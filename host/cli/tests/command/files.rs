@@ -1,18 +1,22 @@
 //! Files that cannot be read, are exchanged, or have awkward names.
 use crate::sample::{as_nobody, bytes, shrunvaki, Sample, PROGRAM};
 use shrunvaki_testkit::command::{end, folder, run, write};
+use shrunvaki_testkit::image::{Descriptor, Entry, Image, GUID, MIB};
 use shrunvaki_testkit::json::Json;
-use shrunvaki_testkit::pending::sample_file;
+use shrunvaki_testkit::pending::{sample_file, small_blocks};
 use std::ffi::OsStr;
-use std::fs;
+use std::fs::{self, File};
 use std::io::Read;
 use std::os::unix::ffi::OsStrExt;
-use std::os::unix::fs::PermissionsExt;
+use std::os::unix::fs::{FileExt, PermissionsExt};
 use std::os::unix::process::ExitStatusExt;
 use std::path::Path;
 use std::process::{Command, Stdio};
 use std::sync::atomic::{AtomicBool, Ordering};
 use std::thread;
+use std::time::Duration;
+
+const M: u64 = MIB as u64;
 
 #[test]
 fn files_that_cannot_be_read() {
@@ -104,6 +108,69 @@ fn a_path_that_becomes_a_pipe_does_not_make_it_wait() {
                 ran.status == Some(0) || (ran.status == Some(2) && not_regular),
                 "{ran:?}"
             );
+        }
+        let attached = ended.iter().filter(|ran| ran.status == Some(0)).count();
+        assert!(
+            (1..ended.len()).contains(&attached),
+            "{attached} of {}",
+            ended.len()
+        );
+    });
+}
+
+/// A file with a long log, and where the offset stands that the last of its descriptors writes to.
+fn long_log() -> (Sample, u64) {
+    const DESCRIPTORS: usize = 40;
+    let mut entry = Entry::new(1, 0);
+    entry.descriptors = vec![
+        Descriptor::Zero {
+            offset: 4 * M,
+            length: 8 * M,
+        };
+        DESCRIPTORS
+    ];
+    let mut image = Image::new(4 * MIB, 4 * M, MIB, GUID);
+    image.tables(&small_blocks().0).entry(0, &entry);
+    let offset = M + 64 + 32 * (DESCRIPTORS as u64 - 1) + 16;
+    (Sample::new(image.buffer), offset)
+}
+
+#[test]
+fn a_file_that_is_changed_while_it_is_read_does_no_harm() {
+    let (sample, at) = long_log();
+    let file = File::options().write(true).open(&sample.path);
+    let file = file.expect("the file");
+    let done = AtomicBool::new(false);
+    thread::scope(|scope| {
+        scope.spawn(|| {
+            // far outside the buffer, and what it was; with the second the entry is valid
+            while !done.load(Ordering::Relaxed) {
+                for (offset, pause) in [(1 << 46, 2), (4 * M, 4)] {
+                    file.write_all_at(&u64::to_le_bytes(offset), at)
+                        .expect("written");
+                    thread::sleep(Duration::from_millis(pause));
+                }
+            }
+        });
+        // an assertion in between would leave the other thread running
+        let mut ended = Vec::new();
+        for _ in 0..60 {
+            ended.push(sample.run("attach", &[]));
+        }
+        for _ in 0..20 {
+            ended.push(sample.run("attach", &["--apply"]));
+        }
+        done.store(true, Ordering::Relaxed);
+        for ran in &ended {
+            assert!(ran.status.is_some(), "ended by a signal");
+            let told = ran.text() + &ran.errors;
+            let expected = [
+                "size to charge: 64 MiB",
+                "refused: 5: ",
+                "refused: 8: ",
+                "changed while it was read",
+            ];
+            assert!(expected.iter().any(|words| told.contains(words)), "{ran:?}");
         }
         let attached = ended.iter().filter(|ran| ran.status == Some(0)).count();
         assert!(

@@ -71,6 +71,11 @@ impl<B: AsRef<[u8]>> Image<B> {
         &buffer[..end.min(buffer.len())]
     }
 
+    /// The buffer.
+    pub fn buffer(&self) -> &B {
+        &self.buffer
+    }
+
     /// The buffer again.
     pub fn into_buffer(self) -> B {
         self.buffer
