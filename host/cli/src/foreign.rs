@@ -50,7 +50,7 @@ impl Foreign {
         if footer.is_some_and(|bytes| bytes.starts_with(b"conectix")) {
             return Some(VHD);
         }
-        // its format is not published: the name is all that there is to go by
+        // we know no signature of this format: the name is all that there is to go by
         let set = name.0.as_bytes().to_ascii_lowercase().ends_with(b".vhds");
         set.then_some(Foreign::Set)
     }

@@ -40,8 +40,9 @@ Applies the file's pending log in memory, reads its tables, and prints the size
 to charge, the kind of disk, whether a log is pending, how long the file is and
 how much of it the host has allocated; then sector and block sizes, the disk's
 identifier, and where its tables are. Or it refuses, by a number, and says what
-can be done about it. The file is not changed. Memory is used for what the log
-writes and for nothing else, so a file may be larger than memory.
+can be done about it. The file is not changed. Memory is used for what is read
+of the log and the tables and for what the log writes, so a file may be larger
+than memory.
 
 A file that another program has locked is read all the same, and a line on
 standard error says so.

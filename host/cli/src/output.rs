@@ -195,8 +195,8 @@ impl Output {
                 max_sectors,
             } => {
                 let message = format!(
-                    "{file}: its log asks for {} sectors to be written, more than the {} that --max-sectors allows. Nothing was \
-                     written. If the file is to be trusted that far, give more with --max-sectors; if not, treat it as hostile.",
+                    "{file}: its log asks for {} sectors to be written, those that it adds to the file among them, more than the {} that \
+                     --max-sectors allows. Nothing was written. If the file is to be trusted that far, give more with --max-sectors; if not, treat it as hostile.",
                     grouped(sectors),
                     grouped(max_sectors)
                 );

@@ -61,7 +61,7 @@ const REG_ERR: usize = 192;
 const IS_WRITE: u64 = 2;
 
 /// Of memory, and of a sector of the log's.
-pub const PAGE: usize = 4096;
+const PAGE: usize = 4096;
 
 /// So many pages are copied at once where one is read, and given at once where one past the file's end is written.
 const READ_AHEAD: usize = 16;
@@ -147,7 +147,7 @@ impl Pages {
         }
     }
 
-    /// The pages in a state other than untouched.
+    /// The pages in a state, which is not that of those that nothing has touched.
     fn in_state(&self, state: State) -> impl Iterator<Item = usize> + '_ {
         let count = self.count();
         (0..count.div_ceil(GROUP))
@@ -157,7 +157,7 @@ impl Pages {
             .filter(move |&page| self.state(page) == state)
     }
 
-    /// From a page on, so many that nothing has touched, at most.
+    /// Behind the last of the pages, at most so many from this one on, that nothing has touched.
     fn untouched(&self, page: usize, most: usize) -> usize {
         let end = self.count().min(page + most);
         (page..end)

@@ -46,7 +46,7 @@ const O_PATH: c_int = 0o10000000;
 /// cannot make a program wait for somebody at the other end of a pipe: it is an error, [`ErrorKind::IsADirectory`] or
 /// [`ErrorKind::InvalidInput`].
 ///
-/// Where another process holds a lease on the file this waits for its end, which the kernel brings about in 45 seconds.
+/// Where another process holds a lease on the file this waits for its end, which the kernel brings about after a time.
 pub fn open_regular(path: impl AsRef<Path>, options: &mut OpenOptions) -> io::Result<File> {
     let path = path.as_ref();
     let mut opened = options.custom_flags(O_NONBLOCK | O_NOCTTY).open(path);

@@ -1,7 +1,7 @@
 //! Files that cannot be read, are exchanged, or have awkward names.
-use crate::sample::{as_nobody, bytes, shrunvaki, Sample, PROGRAM};
+use crate::sample::{as_nobody, bytes, shrunvaki, zeroing, Sample, PROGRAM};
 use shrunvaki_testkit::command::{end, folder, run, write};
-use shrunvaki_testkit::image::{Descriptor, Entry, Image, GUID, MIB};
+use shrunvaki_testkit::image::{Image, GUID, MIB};
 use shrunvaki_testkit::json::Json;
 use shrunvaki_testkit::pending::{sample_file, small_blocks};
 use std::ffi::OsStr;
@@ -121,14 +121,7 @@ fn a_path_that_becomes_a_pipe_does_not_make_it_wait() {
 /// A file with a long log, and where the offset stands that the last of its descriptors writes to.
 fn long_log() -> (Sample, u64) {
     const DESCRIPTORS: usize = 40;
-    let mut entry = Entry::new(1, 0);
-    entry.descriptors = vec![
-        Descriptor::Zero {
-            offset: 4 * M,
-            length: 8 * M,
-        };
-        DESCRIPTORS
-    ];
+    let entry = zeroing(4 * M, 8 * M, DESCRIPTORS);
     let mut image = Image::new(4 * MIB, 4 * M, MIB, GUID);
     image.tables(&small_blocks().0).entry(0, &entry);
     let offset = M + 64 + 32 * (DESCRIPTORS as u64 - 1) + 16;

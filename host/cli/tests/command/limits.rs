@@ -1,7 +1,7 @@
 //! Logs that ask for much, and processes that may have little.
-use crate::sample::{as_nobody, in_shell, shrunvaki, Sample, PROGRAM};
+use crate::sample::{as_nobody, in_shell, shrunvaki, zeroing, Sample, PROGRAM};
 use shrunvaki_testkit::command::run;
-use shrunvaki_testkit::image::{Descriptor, Entry, Image, GUID, MIB};
+use shrunvaki_testkit::image::{Entry, Image, GUID, MIB};
 use std::fs::{self, File};
 use std::os::unix::fs::PermissionsExt;
 use std::path::Path;
@@ -11,16 +11,8 @@ const M: u64 = MIB as u64;
 
 /// A file of 9 MiB whose log zeros the same 512 MiB behind it so many times.
 fn hostile(times: usize) -> Sample {
-    let mut entry = Entry::new(1, 0);
-    entry.descriptors = vec![
-        Descriptor::Zero {
-            offset: 9 * M,
-            length: 512 * M,
-        };
-        times
-    ];
     let mut image = Image::new(9 * MIB, 9 * M, 8 * MIB, GUID);
-    image.entry(0, &entry);
+    image.entry(0, &zeroing(9 * M, 512 * M, times));
     Sample::new(image.buffer)
 }
 

@@ -1,6 +1,6 @@
 //! Files for the command, and runs of it.
 use shrunvaki_testkit::command::{end, folder, run, write, Folder, Ran};
-use shrunvaki_testkit::image::{MIB, SECTOR};
+use shrunvaki_testkit::image::{Descriptor, Entry, MIB, SECTOR};
 use shrunvaki_testkit::json::Json;
 use shrunvaki_testkit::pending::{sample_file, small_blocks, Pending};
 use shrunvaki_testkit::sample::entry;
@@ -27,6 +27,13 @@ pub fn as_nobody(command: &mut Command) -> Ran {
         command.uid(NOBODY).gid(NOBODY);
     }
     end(command)
+}
+
+/// A log entry that zeros the same range so many times.
+pub fn zeroing(offset: u64, length: u64, times: usize) -> Entry {
+    let mut entry = Entry::new(1, 0);
+    entry.descriptors = vec![Descriptor::Zero { offset, length }; times];
+    entry
 }
 
 /// The bytes of an image, without the rest of its buffer.
