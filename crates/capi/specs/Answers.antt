@@ -6,10 +6,11 @@ use Prim.Native.Nat.{ℕ}
 use lib.ListN.{length, replicate}
 use Rattle.decision.specs.Refusal.{Outcome}
 use Rattle.extent.specs.declared.Extent.{Extent}
+use Rattle.vhdx_close.specs.declared.Closed.{Closed}
 use Rattle.vhdx_map.specs.Lookup.{Location, figures}
 use Rattle.vhdx.specs.declared.Attached.{Attached}
 use Rattle.vhdx.specs.declared.Planned.{Planned}
-use Rattle.vhdx.specs.declared.Stepped.{Stepped}
+use Rattle.vhdx_replay.specs.declared.Stepped.{Stepped}
 use Rattle.vhdx_slots.specs.Slots.{inSlots, numbers, factsFrom}
 
 -- slots 16 to 31 are zero
@@ -31,6 +32,10 @@ plannedIn a answer = inSlots 0 (a .refusal ∷ a .length ∷ a .count ∷ 0 ∷ 
 -- both slots: refusal, length
 abbrev pub steppedIn : Stepped → List ℕ → List ℕ
 steppedIn a answer = inSlots 0 (a .refusal ∷ a .length ∷ []) answer
+
+-- all 3 slots: refusal, length, count
+abbrev pub closedIn : Closed → List ℕ → List ℕ
+closedIn a answer = inSlots 0 (a .refusal ∷ a .length ∷ a .count ∷ []) answer
 
 -- both slots: the kind of answer, and its number
 abbrev pub figuresIn : Outcome Location → List ℕ → List ℕ

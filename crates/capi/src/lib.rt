@@ -1,7 +1,8 @@
-// What C and Rust link: the five calls over numbers and arrays. Each takes its arrays apart and makes the proved call.
+// What C and Rust link: the calls over numbers and arrays. Each takes its arrays apart and makes the proved call.
 use vhdx_map::Answer;
 ghost use mathlib.Core.Path.{_≡_};
 ghost use Rattle.decision.specs.Refusal.{refusalOf};
+ghost use Rattle.vhdx_close.specs.Close.{afterClose, closeAnswer, afterCloseStep, closeStepAnswer};
 ghost use Rattle.vhdx_map.specs.Lookup.{lookup};
 ghost use Rattle.vhdx_parent.specs.Key.{keyExtent};
 ghost use Rattle.vhdx_replay.specs.Calls.{file};
@@ -9,7 +10,7 @@ ghost use Rattle.vhdx.specs.Attach.{afterAttach, attachAnswer};
 ghost use Rattle.vhdx.specs.Plan.{planAnswer};
 ghost use Rattle.vhdx.specs.Step.{afterStep, stepAnswer};
 ghost use Rattle.vhdx_slots.specs.Slots.{factsFrom};
-ghost use Rattle.capi.specs.Answers.{restCleared, attachedIn, plannedIn, steppedIn, figuresIn, extentIn};
+ghost use Rattle.capi.specs.Answers.{restCleared, attachedIn, plannedIn, steppedIn, closedIn, figuresIn, extentIn};
 
 // Slots 16 to 31, which have no meaning yet.
 fn clear_rest(answer: &mut [u64; 32])
@@ -70,6 +71,44 @@ pub extern "C" fn shrunvaki_vhdx_step(
     ensures { λ r. ⌜ now (answer .exit) ≡ steppedIn (stepAnswer k (file (now (buffer .entry)) length)) (now (answer .entry)) ⌝ }
 {
     let stepped = vhdx::step(buffer, length, k);
+    answer[0] = stepped.refusal;
+    answer[1] = stepped.length;
+    stepped.refusal
+}
+
+// The refusal's number or 0. The answer: that number, length, count.
+#[no_mangle]
+pub extern "C" fn shrunvaki_vhdx_close(
+    buffer: &mut [u8],
+    length: u64,
+    identifier: &[u8; 16],
+    answer: &mut [u64; 3],
+) -> u64
+    ensures { λ r. ⌜ r ≡ closeAnswer (now (identifier .entry)) (file (now (buffer .entry)) length) .refusal ⌝ }
+    ensures { λ r. ⌜ now (buffer .exit) ≡ afterClose (now (identifier .entry)) (file (now (buffer .entry)) length) .buffer ⌝ }
+    ensures { λ r. ⌜ now (answer .exit) ≡ closedIn (closeAnswer (now (identifier .entry)) (file (now (buffer .entry)) length)) (now (answer .entry)) ⌝ }
+{
+    let closed = vhdx::close(buffer, length, identifier);
+    answer[0] = closed.refusal;
+    answer[1] = closed.length;
+    answer[2] = closed.count;
+    closed.refusal
+}
+
+// The refusal's number or 0. The answer: that number, length.
+#[no_mangle]
+pub extern "C" fn shrunvaki_vhdx_close_step(
+    buffer: &mut [u8],
+    length: u64,
+    identifier: &[u8; 16],
+    k: u64,
+    answer: &mut [u64; 2],
+) -> u64
+    ensures { λ r. ⌜ r ≡ closeStepAnswer (now (identifier .entry)) k (file (now (buffer .entry)) length) .refusal ⌝ }
+    ensures { λ r. ⌜ now (buffer .exit) ≡ afterCloseStep (now (identifier .entry)) k (file (now (buffer .entry)) length) .buffer ⌝ }
+    ensures { λ r. ⌜ now (answer .exit) ≡ steppedIn (closeStepAnswer (now (identifier .entry)) k (file (now (buffer .entry)) length)) (now (answer .entry)) ⌝ }
+{
+    let stepped = vhdx::close_step(buffer, length, identifier, k);
     answer[0] = stepped.refusal;
     answer[1] = stepped.length;
     stepped.refusal

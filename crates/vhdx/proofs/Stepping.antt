@@ -18,7 +18,7 @@ use Rattle.vhdx_replay.specs.Steps.{File, write, end, runs, steps, admitted, ch
 use Rattle.vhdx_replay.specs.Calls.{file}
 use Rattle.vhdx_replay.specs.Planned.{Planned}
 use Rattle.vhdx_replay.proofs.Applying.{planned, plan-is}
-use Rattle.vhdx.specs.declared.Stepped.{Stepped}
+use Rattle.vhdx_replay.specs.declared.Stepped.{Stepped}
 use Rattle.vhdx.specs.Step.{afterStep, stepAnswer}
 
 -- what a step on a file with this plan says and leaves

@@ -3,3 +3,4 @@ pub mod Plan
 pub mod Step
 pub mod Refusals
 pub mod CrashSafety
+pub mod CloseSafety

@@ -1,13 +1,16 @@
-// The five calls of the library: attach, the plan that it follows, a single step of the replay, lookup, parent key. None has a
-// `requires`: a caller may hand in any buffer, length, step, sector, facts and key.
-// Attach and step write, and write through `vhdx_replay` alone.
+// The seven calls of the library: attach, the plan that it follows, a single step of the replay, closing the log, a single step of
+// that, lookup, parent key. None has a `requires`: a caller may hand in any buffer, length, step, identifier, sector, facts and key.
+// Attach, close and their steps write, and write through `vhdx_replay::store` alone.
 use extent::Extent;
+use vhdx_close::Closed;
 use vhdx_facts::Facts;
 use vhdx_log::Work;
+use vhdx_replay::Stepped;
 ghost use mathlib.Core.Path.{_≡_};
 ghost use Prim.Native.Nat.{_≤_};
 ghost use lib.ListN.{length as lengthOf, take};
 ghost use Rattle.extent.specs.Extent.{MiB, part as partOf, onward};
+ghost use Rattle.vhdx_close.specs.Close.{afterClose, closeAnswer, afterCloseStep, closeStepAnswer};
 ghost use Rattle.vhdx_map.specs.Lookup.{lookup as lookupOf, outcome};
 ghost use Rattle.vhdx_parent.specs.Key.{keyExtent};
 ghost use Rattle.vhdx_replay.specs.Calls.{file};
@@ -34,13 +37,6 @@ pub struct Planned {
     pub length: u64,
     // how many sectors the log's replay would write
     pub count: u64,
-}
-
-pub struct Stepped {
-    // document 01's number, or 0
-    pub refusal: u64,
-    // of the image as the step leaves it
-    pub length: u64,
 }
 
 // Applies the log of the image that is the buffer's first length bytes, and reads its tables. What 1 to 8 refuse is decided
@@ -125,6 +121,23 @@ pub fn step(buffer: &mut [u8], length: u64, k: u64) -> Stepped
             }
         }
     }
+}
+
+// Closes the log for good: applies it as attach does, then rewrites the header that is not current, with no log and with this
+// file-write identifier. No table is read.
+pub fn close(buffer: &mut [u8], length: u64, identifier: &[u8; 16]) -> Closed
+    ensures { λ r. ⌜ r ≡ closeAnswer (now (identifier .entry)) (file (now (buffer .entry)) length) ⌝ }
+    ensures { λ r. ⌜ now (buffer .exit) ≡ afterClose (now (identifier .entry)) (file (now (buffer .entry)) length) .buffer ⌝ }
+{
+    vhdx_close::close(buffer, length, identifier)
+}
+
+// Does step k of closing alone: those of the replay, then the header's.
+pub fn close_step(buffer: &mut [u8], length: u64, identifier: &[u8; 16], k: u64) -> Stepped
+    ensures { λ r. ⌜ r ≡ closeStepAnswer (now (identifier .entry)) k (file (now (buffer .entry)) length) ⌝ }
+    ensures { λ r. ⌜ now (buffer .exit) ≡ afterCloseStep (now (identifier .entry)) k (file (now (buffer .entry)) length) .buffer ⌝ }
+{
+    vhdx_close::close_step(buffer, length, identifier, k)
 }
 
 // Where the bytes of a sector are, by the facts that attach answered.

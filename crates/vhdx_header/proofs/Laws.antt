@@ -40,7 +40,7 @@ pub record Accepted (b : List ℕ) (n : ℕ) (h : Header) : Type 0 where
   pub inside : h .«log_offset» + h .«log_length» ≤ n
 
 -- a header that is answered has passed each test
-passed : (t : Bool) (c : ℕ) (a : Answer) {h : Header} → check t (Refused c) a ≡ Current h → (t ≡ true) × (a ≡ Current h)
+pub passed : (t : Bool) (c : ℕ) (a : Answer) {h : Header} → check t (Refused c) a ≡ Current h → (t ≡ true) × (a ≡ Current h)
 passed true c a e = (refl, e)
 passed false c a e = let z : _≡_ {A = ℕ} 0 1 = cc in absurd (omega arith)
 
@@ -82,7 +82,7 @@ within n (Current k) {h} e =
     (p .1, subst (λ (x : Header). insideRule x n ≡ true) same (p .0))
 
 module _ (b : List ℕ) (n : ℕ) {h : Header} (e : currentHeader b n ≡ Current h) where
-  tests : ((leb n (length b) ≡ true) × (leb MiB n ≡ true)) × ((readFirstMiB (firstMiB b) ≡ Current h) × (insideRule h n ≡ true))
+  pub tests : ((leb n (length b) ≡ true) × (leb MiB n ≡ true)) × ((readFirstMiB (firstMiB b) ≡ Current h) × (insideRule h n ≡ true))
   unfolding currentHeader
   tests =
       let p = passed (leb n (length b) && leb MiB n) 1 (withinImage n (readFirstMiB (firstMiB b))) e in

@@ -5,7 +5,7 @@ use mathlib.Core.Bool.{Bool, true, false, cond, _&&_}
 use mathlib.Core.List.{List, [], _∷_}
 use mathlib.Core.Option.{Option, none, some}
 use Prim.Native.Nat.{ℕ}
-use lib.Dec.{leb, ltb}
+use lib.Dec.{eqb, leb, ltb}
 use lib.ListN.{length, take, drop}
 use Rattle.decision.specs.Refusal.{check}
 use Rattle.field.specs.Fields.{starts}
@@ -80,3 +80,7 @@ firstMiB buffer = take MiB buffer
 -- of the image that is the first n bytes of a buffer. 1: length above the buffer's, or below 1 MiB
 unfoldable pub currentHeader : List ℕ → ℕ → Answer
 currentHeader buffer n = check (leb n (length buffer) && leb MiB n) (Refused 1) (withinImage n (readFirstMiB (firstMiB buffer)))
+
+-- the header that is not the one at an offset (change request Q-6: "the header that isn't current")
+abbrev pub otherSlot : ℕ → ℕ
+otherSlot at = cond (eqb at slot1) slot2 slot1

@@ -78,17 +78,23 @@ module _ {n n′ m capacity : ℕ} {ss : List Sector} (longer : n ≤ n′) (bel
           let w = within capacity n [] p in
           (ap (λ (x : ℕ). applyWithin capacity x []) {x = n′} {y = n} (omega (arith, w .same)) ∙ p, w .fits)
 
-module _ (b b′ : List ℕ) {n n′ m : ℕ} {ss : List Sector} (longer : n ≤ n′) (below : n′ ≤ m) (capacity : length b′ ≡ length b) (first : firstMiB b′ ≡ firstMiB b)
+module _ (b b′ : List ℕ) {n n′ m : ℕ} {ss : List Sector} (longer : n ≤ n′) (below : n′ ≤ m) (capacity : length b′ ≡ length b)
+    (current : (h : Header) → currentHeader b n ≡ Current h → n′ ≤ length b′ → currentHeader b′ n′ ≡ Current h)
     (log : (h : Header) → currentHeader b n ≡ Current h → logBytes h b′ ≡ logBytes h b) where
-  pub plan-again : plan b n ≡ apply m ss → plan b′ n′ ≡ apply m ss
+  -- whatever else changed, the same header is current
+  pub plan-again-by : plan b n ≡ apply m ss → plan b′ n′ ≡ apply m ss
   unfolding plan planHeader
-  plan-again e = go (currentHeader b n) refl e
+  plan-again-by e = go (currentHeader b n) refl e
     where
       go : (a : Answer) → currentHeader b n ≡ a → planHeader a b n ≡ apply m ss → planHeader (currentHeader b′ n′) b′ n′ ≡ apply m ss
       go (Refused c) k p = let z : _≡_ {A = ℕ} 0 1 = cc in absurd (omega arith)
       go (Current h) k p =
           let q = log-again {n = n} {n′ = n′} {m = m} {capacity = length b} {ss = ss} longer below h (logBytes h b) p in
-          let current = read-again b n k b′ n′ first longer (omega (arith, q .1)) in
-          ap (λ (a : Answer). planHeader a b′ n′) current
+          ap (λ (a : Answer). planHeader a b′ n′) (current h k (omega (arith, q .1)))
           ∙ ap (λ (l : List ℕ). planLog h l n′ (length b′)) (log h k)
           ∙ ap (planLog h (logBytes h b) n′) capacity ∙ q .0
+
+module _ (b b′ : List ℕ) {n n′ m : ℕ} {ss : List Sector} (longer : n ≤ n′) (below : n′ ≤ m) (capacity : length b′ ≡ length b) (first : firstMiB b′ ≡ firstMiB b)
+    (log : (h : Header) → currentHeader b n ≡ Current h → logBytes h b′ ≡ logBytes h b) where
+  pub plan-again : plan b n ≡ apply m ss → plan b′ n′ ≡ apply m ss
+  plan-again = plan-again-by b b′ longer below capacity (λ h k fits. read-again b n k b′ n′ first longer fits) log

@@ -42,20 +42,21 @@ use Rattle.vhdx_replay.proofs.Sectors.{AllSized, entries-sized, Whole, 
 pub record Applied (log : Extent) (n capacity m : ℕ) (ss : List Sector) : Type 0 where
   pub grows : n ≤ m
   pub fits : m ≤ capacity
+  pub limit : m ≤ lengthLimit
   pub whole : Whole ss
   pub ends : EndBy m ss
   pub clear : someLies log ss ≡ false
 
-within : (capacity final : ℕ) (l : List Sector) {m : ℕ} {ss : List Sector} → applyWithin capacity final l ≡ apply m ss → (final ≤ capacity) × (final ≡ m) × (l ≡ ss)
+within : (capacity final : ℕ) (l : List Sector) {m : ℕ} {ss : List Sector} → applyWithin capacity final l ≡ apply m ss → (final ≤ capacity) × (final ≡ m) × (l ≡ ss) × (final ≤ lengthLimit)
 within capacity final l h =
     let p = passed (leb final capacity && leb final lengthLimit) 8 (apply final l) h in
-    let fits : final ≤ capacity = leb-true final capacity (and-eq-true-iff (leb final capacity) (leb final lengthLimit) .0 (p .0) .0) in
-    (fits, cc (p .1), cc (p .1))
+    let both = and-eq-true-iff (leb final capacity) (leb final lengthLimit) .0 (p .0) in
+    (leb-true final capacity (both .0), cc (p .1), cc (p .1), leb-true final lengthLimit (both .1))
 
 no-log : (log : Extent) (n capacity : ℕ) {m : ℕ} {ss : List Sector} → applyWithin capacity n [] ≡ apply m ss → Applied log n capacity m ss
 no-log log n capacity h =
     let w = within capacity n [] h in
-    record { grows = omega (arith, w .1); fits = omega (arith, w .0, w .1); whole = rw (← w .2) tt; ends = rw (← w .2) tt; clear = rw (← w .2) }
+    record { grows = omega (arith, w .1); fits = omega (arith, w .0, w .1); limit = omega (arith, w .1, w .3); whole = rw (← w .2) tt; ends = rw (← w .2) tt; clear = rw (← w .2) }
 
 of-work : (log : Extent) (es : Entries) (n capacity : ℕ) {m : ℕ} {ss : List Sector} → AllSized (allDescriptors es) → work log es n capacity ≡ apply m ss → Applied log n capacity m ss
 unfolding work
@@ -68,6 +69,7 @@ of-work log es n capacity {m} sized h =
     record {
       grows = omega (arith, w .1);
       fits = omega (arith, w .0, w .1);
+      limit = omega (arith, w .1, w .3);
       whole = rw (← w .2) (all-whole (allDescriptors es) sized);
       ends = rw (← w .2) (all-end m (allDescriptors es) sized far);
       clear = rw (← w .2) (not-true _ (b .0));

@@ -118,25 +118,25 @@ beyond m ss i h (write s ∷ w) f a low fits =
 
 -- ---- writing all sectors brings two buffers together that agree elsewhere
 
-record Agree (m : ℕ) (ts : List Sector) (f g : File) : Type 0 where
-  capacity : length (f .buffer) ≡ length (g .buffer)
-  big : m ≤ length (g .buffer)
-  size-f : f .size ≡ m
-  size-g : g .size ≡ m
-  rest : (i : ℕ) → i < m → ¬ Named ts i → getD (f .buffer) i 0 ≡ getD (g .buffer) i 0
+pub record Agree (m : ℕ) (ts : List Sector) (f g : File) : Type 0 where
+  pub capacity : length (f .buffer) ≡ length (g .buffer)
+  pub big : m ≤ length (g .buffer)
+  pub size-f : f .size ≡ m
+  pub size-g : g .size ≡ m
+  pub rest : (i : ℕ) → i < m → ¬ Named ts i → getD (f .buffer) i 0 ≡ getD (g .buffer) i 0
 
-in-or-out : (i : ℕ) (s : Sector) → In i s ⊎ (¬ In i s)
+pub in-or-out : (i : ℕ) (s : Sector) → In i s ⊎ (¬ In i s)
 in-or-out i s =
     ⊎-elim (λ a. inr (λ x. omega (arith, x .0))) (λ a. ⊎-elim (λ b. inl (a, b)) (λ b. inr (λ x. omega (arith, x .1))) (lt-or-le i (end s))) (lt-or-le i (s .offset))
 
-meet : (m : ℕ) (ts : List Sector) {f g : File} → EndBy m ts → Agree m ts f g → Agree m [] (runs (map write ts) f) (runs (map write ts) g)
-meet m [] e a = a
-meet m (s ∷ ts) {f} {g} e a =
-    let bf : end s ≤ length (f .buffer) = omega (arith, e .0, a .big, a .capacity) in
-    let bg : end s ≤ length (g .buffer) = omega (arith, e .0, a .big) in
+-- one sector, written in both
+pub meet-one : (m : ℕ) (s : Sector) (ts : List Sector) {f g : File} → end s ≤ m → Agree m (s ∷ ts) f g → Agree m ts (run (write s) f) (run (write s) g)
+meet-one m s ts {f} {g} e a =
+    let bf : end s ≤ length (f .buffer) = omega (arith, e, a .big, a .capacity) in
+    let bg : end s ≤ length (g .buffer) = omega (arith, e, a .big) in
     let lf = put-length (f .buffer) (s .offset) (s .bytes) bf in
     let lg = put-length (g .buffer) (s .offset) (s .bytes) bg in
-    meet m ts (e .1) record {
+    record {
       capacity = lf ∙ a .capacity ∙ sym lg;
       big = omega (arith, a .big, lg);
       size-f = a .size-f;
@@ -148,9 +148,13 @@ meet m (s ∷ ts) {f} {g} e a =
           (in-or-out i s);
     }
 
+pub meet : (m : ℕ) (ts : List Sector) {f g : File} → EndBy m ts → Agree m ts f g → Agree m [] (runs (map write ts) f) (runs (map write ts) g)
+meet m [] e a = a
+meet m (s ∷ ts) e a = meet m ts (e .1) (meet-one m s ts (e .0) a)
+
 -- ---- the theorem
 
-same-image : (m : ℕ) {f g : File} → Agree m [] f g → take (f .size) (f .buffer) ≡ take (g .size) (g .buffer)
+pub same-image : (m : ℕ) {f g : File} → Agree m [] f g → take (f .size) (f .buffer) ≡ take (g .size) (g .buffer)
 same-image m {f} {g} a =
     rw (a .size-f, a .size-g)
     (ext-getD 0 (take m (f .buffer)) (take m (g .buffer)) (lf ∙ sym lg)
@@ -161,6 +165,28 @@ same-image m {f} {g} a =
 
     lg : length (take m (g .buffer)) ≡ m
     lg = length-take-le m (g .buffer) (a .big)
+
+-- all steps done on the file as it is now, and on the file as it came
+module _ {o : File} {m : ℕ} {ss : List Sector} (grows : o .size ≤ m) (fits : m ≤ length (o .buffer)) (ends : EndBy m ss) where
+  pub grown-alike : {f : File} → Inv o m ss f → Agree m ss (run (grow m) f) (run (grow m) o)
+  grown-alike {f} h =
+      let b : m ≤ length (f .buffer) = omega (arith, fits, h .capacity) in
+      let lf = zeroed-length (f .buffer) (f .size) m (h .within) b in
+      let lo = zeroed-length (o .buffer) (o .size) m grows fits in
+      record {
+        capacity = lf ∙ h .capacity ∙ sym lo;
+        big = omega (arith, fits, lo);
+        size-f = refl;
+        size-g = refl;
+        rest = λ i l n.
+            ⊎-elim
+            (λ a. zeroed-low (f .buffer) (f .size) m (h .within) b i a ∙ h .rest i a n)
+            (λ a. zeroed-in (f .buffer) (f .size) m (h .within) b i a l ∙ sym (zeroed-in (o .buffer) (o .size) m grows fits i (omega (arith, h .longer)) l))
+            (lt-or-le i (f .size));
+      }
+
+  pub all-done : {f : File} → Inv o m ss f → Agree m [] (runs (steps (apply m ss)) f) (runs (steps (apply m ss)) o)
+  all-done h = meet m ss ends (grown-alike h)
 
 -- what the reader of the headers and the log is to show. `kept i`: byte i is in the first MiB or in the log
 pub record Reads (kept : ℕ → Type 0) (o : File) (m : ℕ) (ss : List Sector) : Type 0 where
@@ -201,25 +227,7 @@ module _ {kept : ℕ → Type 0} {o : File} {m : ℕ} {ss : List Sector} (R : Re
   pub kept-by-calls : {g : File} → Calls o g → Inv o m ss g
   kept-by-calls cs = after first cs
 
-  -- an attach of the file as it is now, and one of the file as it came
-  attached : {f : File} → Inv o m ss f → Agree m [] (runs (steps (apply m ss)) f) (runs (steps (apply m ss)) o)
-  attached {f} h =
-      let b : m ≤ length (f .buffer) = omega (arith, R .fits, h .capacity) in
-      let lf = zeroed-length (f .buffer) (f .size) m (h .within) b in
-      let lo = zeroed-length (o .buffer) (o .size) m (R .grows) (R .fits) in
-      meet m ss (R .ends) record {
-        capacity = lf ∙ h .capacity ∙ sym lo;
-        big = omega (arith, R .fits, lo);
-        size-f = refl;
-        size-g = refl;
-        rest = λ i l n.
-            ⊎-elim
-            (λ a. zeroed-low (f .buffer) (f .size) m (h .within) b i a ∙ h .rest i a n)
-            (λ a. zeroed-in (f .buffer) (f .size) m (h .within) b i a l ∙ sym (zeroed-in (o .buffer) (o .size) m (R .grows) (R .fits) i (omega (arith, h .longer)) l))
-            (lt-or-le i (f .size));
-      }
-
   -- so both leave the same file
   pub same-file : {f : File} → Inv o m ss f → (runs (steps (apply m ss)) f .size ≡ runs (steps (apply m ss)) o .size)
       × (take (runs (steps (apply m ss)) f .size) (runs (steps (apply m ss)) f .buffer) ≡ take (runs (steps (apply m ss)) o .size) (runs (steps (apply m ss)) o .buffer))
-  same-file h = let a = attached h in (a .size-f ∙ sym (a .size-g), same-image m a)
+  same-file h = let a = all-done (R .grows) (R .fits) (R .ends) h in (a .size-f ∙ sym (a .size-g), same-image m a)

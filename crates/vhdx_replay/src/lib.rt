@@ -2,7 +2,7 @@
 // and one sector a call.
 // Its modules: `store`, bytes into a buffer; `sector`, the write of one sector.
 mod sector;
-mod store;
+pub mod store;
 
 use extent::Extent;
 use vhdx_log::Work;
@@ -20,6 +20,14 @@ ghost use Rattle.vhdx_replay.specs.Steps.{steps, runs, chosen, single};
 ghost use Rattle.vhdx_replay.specs.Calls.{file};
 ghost use Rattle.vhdx_replay.specs.Writes.{firstFits, firstWritten, allWritten, Writable};
 ghost use Rattle.vhdx_replay.specs.Planned.{logExtent, Planned};
+
+// What a call that does one step answers.
+pub struct Stepped {
+    // document 01's number, or 0
+    pub refusal: u64,
+    // of the image as the step leaves it
+    pub length: u64,
+}
 
 // Step 0: zeros from the given length up to the final one, upward, so that growth that is interrupted is shorter growth.
 fn grow(buffer: &mut [u8], from: u64, to: u64)

@@ -11,19 +11,12 @@ ghost use Rattle.vhdx_walk.specs.Bytes.{sectorBytes};
 ghost use Rattle.vhdx_walk.specs.Cursor.{bytesOf, Held};
 ghost use Rattle.vhdx_replay.specs.Buffer.{put};
 
-// An array for a sector. What is in it does not matter.
-fn blank() -> [u8; 4096]
-    ensures { λ r. ⌜ lengthOf r ≡ 4096 ⌝ }
-{
-    [0u8; 4096]
-}
-
 // The bytes of a data sector, whose descriptor and stored sector are at these offsets of the log.
 fn data(log: &[u8], descriptor: usize, sector: usize) -> [u8; 4096]
     requires { ⌜ (descriptor + 32 ≤ lengthOf (now log)) × (sector + 4096 ≤ lengthOf (now log)) ⌝ }
     ensures { λ r. ⌜ r ≡ sectorBytes (take 32 (drop descriptor (now (log .entry)))) (take 4096 (drop sector (now (log .entry)))) ⌝ }
 {
-    let mut out = blank();
+    let mut out = store::blank();
     let end = sector + 4096;
     store::bytes(&mut out, 0, &log[sector..end]);
     let leading = descriptor + 8;

@@ -1,8 +1,15 @@
-// Bytes stored in a buffer. What writes, writes through these two.
+// Bytes stored in a buffer. What writes, writes through `zeros` and `bytes`.
 ghost use mathlib.Core.Path.{_≡_};
 ghost use Prim.Native.Nat.{_+_, _≤_};
 ghost use lib.ListN.{length as lengthOf};
 ghost use Rattle.vhdx_replay.specs.Buffer.{put, zeroed};
+
+// An array to put the bytes of one write together in. What is in it does not matter.
+pub fn blank() -> [u8; 4096]
+    ensures { λ r. ⌜ lengthOf r ≡ 4096 ⌝ }
+{
+    [0u8; 4096]
+}
 
 // Zeros from an offset up to, not including, another; upward.
 pub fn zeros(buffer: &mut [u8], from: usize, to: usize)

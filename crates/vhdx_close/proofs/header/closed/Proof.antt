@@ -1,0 +1,36 @@
+-- `vhdx_close::header::closed` meets its contract: the checksum over the rewritten header.
+-- Assumes nothing.
+use mathlib.Core.Path.{ap, _∙_}
+use native.Mathlib.Omega.{arith}
+use lib.ListN.{length}
+use Rattle.vhdx_replay.specs.Buffer.{put}
+use Rattle.vhdx_close.specs.Rewrite.{leBytes, sealed, closedHeader}
+use Rattle.vhdx_replay.proofs.Bytes.{put-length}
+use Rattle.vhdx_close.proofs.Parts.{le-bytes-long}
+use borrow.Author.Needs.{needs}
+use Rattle.vhdx_close.proofs.header.closed.Statement.{statement}
+use Rattle.vhdx_close.proofs.header.closed.Tie as tie
+
+returns : tie.Need-returns
+unfolding closedHeader sealed
+returns c =
+    let b = c .before in
+    let n4 = b .before .before .before in
+    let sum = n4 .before in
+    let w = sum .before .before in
+    let u = w .rewrite .result in
+    let is = b .bytes .ensures ∙ ap (put u 4) (n4 .bytes4 .ensures ∙ ap (leBytes 4) (sum .checksum-zeroed .ensures)) ∙ ap sealed (w .rewrite .ensures .0) in
+    (is, ap length (b .bytes .ensures) ∙ put-length u 4 (n4 .bytes4 .result) (omega (arith, w .rewrite .ensures .1, ap length (n4 .bytes4 .ensures), le-bytes-long 4 (sum .checksum-zeroed .result))) ∙ w .rewrite .ensures .1)
+
+pub closed-spec : {M : Type 1} → statement M
+closed-spec =
+    tie.close
+    (tie.spec
+    (λ c κs. search needs)
+    (λ c. search needs)
+    (λ c κs. search needs)
+    (λ c κs. search needs)
+    (λ c. search needs)
+    (λ c. search needs)
+    (λ c κs. search needs)
+    returns)

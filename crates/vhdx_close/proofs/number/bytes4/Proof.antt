@@ -1,0 +1,20 @@
+-- `vhdx_close::number::bytes4` meets its contract.
+-- Assumes nothing.
+use Rattle.vhdx_close.specs.Rewrite.{leBytes}
+use borrow.Author.Needs.{needs}
+use Rattle.vhdx_close.proofs.number.bytes4.Statement.{statement}
+use Rattle.vhdx_close.proofs.number.bytes4.Tie as tie
+
+returns : tie.Need-returns
+unfolding leBytes
+returns c = cc
+
+pub bytes4-spec : {M : Type 1} → statement M
+bytes4-spec =
+    tie.close
+    (tie.spec
+    (λ c κs. search needs)
+    (λ c κs. search needs)
+    (λ c κs. search needs)
+    (λ c κs. search needs)
+    returns)

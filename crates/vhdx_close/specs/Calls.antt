@@ -1,0 +1,39 @@
+-- Lists of closes and of their steps, each run to its end, refused or interrupted (change request Q-6: "For that call and its steps, in
+-- a list without attach's, .. with the same identifier lent every time, the steps in order from 0, none skipped, at the start and after
+-- each cut"). What an interrupted run of steps leaves is `Ran` of vhdx_replay, with the header's slot as one more sector.
+-- Assumes nothing.
+use mathlib.Core.Bool.{true}
+use mathlib.Core.List.{List}
+use mathlib.Core.Logic.{_⊎_}
+use mathlib.Core.Path.{_≡_}
+use Prim.Native.Nat.{ℕ, zero, suc, _≤_}
+use Rattle.decision.specs.Refusal.{refused}
+use Rattle.vhdx_header.specs.declared.Answer.{Answer as HeaderAnswer}
+use Rattle.vhdx_header.specs.declared.Answer.the-variants.{Refused as HeaderRefused, Current}
+use Rattle.vhdx_header.specs.Header.{validHeader}
+use Rattle.vhdx_header.specs.Current.{currentHeader, otherSlot}
+use Rattle.vhdx_replay.specs.Steps.{File, Ran, steps, chosen, single}
+use Rattle.vhdx_close.specs.Rewrite.{closedHeader}
+use Rattle.vhdx_close.specs.Close.{slotIn, closePlan, afterClose, afterCloseStep}
+
+-- "the premise that a half-written header isn't valid", of an interrupted call that takes f to g: where the slot of the header that
+-- isn't current in f holds a valid one in g, it is a whole one, the one that was there or the one that closing writes
+abbrev pub WholeBy : HeaderAnswer → List ℕ → File → File → Type 0
+WholeBy (HeaderRefused c) identifier f g = Unit {0}
+WholeBy (Current h) identifier f g =
+    validHeader (slotIn g (otherSlot (h .slot))) ≡ true
+    → (slotIn g (otherSlot (h .slot)) ≡ slotIn f (otherSlot (h .slot))) ⊎ (slotIn g (otherSlot (h .slot)) ≡ closedHeader (slotIn f (h .slot)) identifier)
+
+abbrev pub WholeIfValid : List ℕ → File → File → Type 0
+WholeIfValid identifier f g = WholeBy (currentHeader (f .buffer) (f .size)) identifier f g
+
+-- any list of calls, each on what the one before left. e is the number of the step that is next in order: 0 at the start and after each
+-- interruption. A step that was done already may be done again; those behind it are then to be done again too
+pub data Calls (identifier : List ℕ) : ℕ → File → File → Type 0 where
+  none : {e : ℕ} {f : File} → Calls identifier e f f
+  close : {e : ℕ} {f h : File} → Calls identifier e (afterClose identifier f) h → Calls identifier e f h
+  step : {e : ℕ} {f h : File} (k : ℕ) → k ≤ e → Calls identifier (suc k) (afterCloseStep identifier k f) h → Calls identifier e f h
+  -- a step that is refused, whatever its number
+  refuse : {e : ℕ} {f h : File} (k c : ℕ) → chosen (closePlan identifier f) k (f .size) ≡ refused c → Calls identifier e (afterCloseStep identifier k f) h → Calls identifier e f h
+  interrupted-close : {e : ℕ} {f g h : File} → Ran (steps (closePlan identifier f)) f g → WholeIfValid identifier f g → Calls identifier zero g h → Calls identifier e f h
+  interrupted-step : {e : ℕ} {f g h : File} (k : ℕ) → k ≤ e → Ran (single (closePlan identifier f) k (f .size)) f g → WholeIfValid identifier f g → Calls identifier zero g h → Calls identifier e f h

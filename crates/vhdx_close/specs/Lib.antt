@@ -1,0 +1,5 @@
+pub mod Rewrite
+pub mod Close
+pub mod Deciding
+pub mod Calls
+pub mod Safety
