@@ -2,13 +2,14 @@
  * Shrunvaki: VHDX images whose bytes nobody vouches for.
  *
  * An image is the first `length` bytes of a buffer of `capacity` bytes. The buffer is the caller's before, during and after every
- * call: nothing is kept, allocated or freed, and no file is opened. Attach and step write inside the buffer alone, beside their
- * answer. During a call nobody else may write to the buffer, nor read it while attach or step runs. Arrays share no byte with the
- * buffer, and no pointer is null. All else may be anything, every number and every byte: a call answers, or refuses by a number.
+ * call: nothing is kept, allocated or freed, and no file is opened. Attach, close and their steps write inside the buffer alone,
+ * beside their answer. During a call nobody else may write to the buffer, nor read it while one of these runs. Arrays share no byte
+ * with the buffer, and no pointer is null. All else may be anything, every number and every byte: a call answers, or refuses by a
+ * number.
  *
  * A file: read it into a buffer with room for what its log grows it by, call shrunvaki_vhdx_attach, and go on with the length in
- * its answer. The log stays in the file and is not marked as applied: attaching again does the same work and gives the same.
- * examples/attach.c does this. Link target/staticlib/libcapi.a, which `rt staticlib capi` writes.
+ * its answer. The log stays in the file and is not marked as applied: attaching again does the same work and gives the same, until
+ * shrunvaki_vhdx_close closes the log. examples/attach.c attaches. Link target/staticlib/libcapi.a, which `rt staticlib capi` writes.
  */
 #ifndef SHRUNVAKI_H
 #define SHRUNVAKI_H
@@ -24,10 +25,11 @@ extern "C" {
  * What is wrong where a call refuses by this number; NULL where no call does, as for 0. A call refuses by the first of its
  * numbers that applies:
  *
- *   1 to 8   attach, plan, step   no byte is changed
- *   9 to 15  attach               the log is applied, and every fact is zero
- *  16 to 20  lookup               nothing is ever written
- *  21, 22    step                 no byte is changed
+ *   1 to 8   attach, plan, close, their steps   no byte is changed
+ *   9 to 15  attach                             the log is applied, and every fact is zero
+ *  16 to 20  lookup                             nothing is ever written
+ *  21, 22    the steps                          no byte is changed
+ *  23        close, its steps                   no byte is changed; comes after 8, before 21 and 22
  */
 static inline const char *shrunvaki_vhdx_refusal_text(uint64_t number)
 {
@@ -54,11 +56,12 @@ static inline const char *shrunvaki_vhdx_refusal_text(uint64_t number)
         /* 20 */ "the block's sector bitmap is not present, starts below 1 MiB or ends past the file",
         /* 21 */ "the log's work has no such step",
         /* 22 */ "the step's sector ends past the given length",
+        /* 23 */ "the log cannot be closed: the header's sequence number is at its greatest value",
     };
     return number >= 1 && number <= sizeof texts / sizeof *texts ? texts[number - 1] : NULL;
 }
 
-/* The slots of attach's answer, the first three of plan's too. Slots 16 to 31 are 0. */
+/* The slots of attach's answer, the first three of plan's and close's too. Slots 16 to 31 are 0. */
 enum {
     SHRUNVAKI_REFUSAL = 0,
     SHRUNVAKI_LENGTH = 1, /* of the image after the call, in bytes */
@@ -117,6 +120,31 @@ uint64_t shrunvaki_vhdx_plan(const uint8_t *buffer, size_t capacity, uint64_t le
  * the step: grown by step 0, else the given one. A refused step changes nothing.
  */
 uint64_t shrunvaki_vhdx_step(uint8_t *buffer, size_t capacity, uint64_t length, uint64_t k, uint64_t answer[2]);
+
+/*
+ * Closes the log for good: applies it as attach does, then rewrites one header, so that no log is pending any more. The header that
+ * is not current becomes the current one's copy with the next sequence number, no log, this file-write identifier (any 16 bytes; the
+ * format wants one that was never used, best a random one) and its checksum. No table is read, so 9 to 15 are not judged.
+ *
+ * Returns the refusal's number. answer[0] is that number, answer[1] the image's length after the call, answer[2] the count of
+ * sectors written, the header not counted. With a refusal nothing is changed, and the answer is the given length and count 0. Where
+ * no log is pending the call succeeds and changes nothing.
+ *
+ * A call that was interrupted is made good by another close of what it left, with the same identifier, at the length that it left
+ * and in a buffer of the same capacity, where a header that was half written is not valid by its checksum. For a file that is
+ * written through: the header must not reach the disk before the sectors.
+ */
+uint64_t shrunvaki_vhdx_close(uint8_t *buffer, size_t capacity, uint64_t length, const uint8_t identifier[16],
+                              uint64_t answer[3]);
+
+/*
+ * Does one step of closing alone: step 0 grows the image, step k writes sector k, from 1 to close's count, and step count + 1 the
+ * header; where no log is pending there is only step 0. answer[0] is the refusal, which is returned too, answer[1] the image's
+ * length after the step. Do them in order, from 0 again after an interruption: the header before its sectors loses the log. A
+ * refused step changes nothing.
+ */
+uint64_t shrunvaki_vhdx_close_step(uint8_t *buffer, size_t capacity, uint64_t length, const uint8_t identifier[16], uint64_t k,
+                                   uint64_t answer[2]);
 
 /*
  * Says where a sector of the disk is (a sector of the logical sector size). `facts` is attach's answer, of which slots 3 to 15

@@ -27,7 +27,7 @@ Options of all but demo, whose numbers may end in K, M, G or T (by 1,024):
 
 Only attach --apply changes the file. The others apply its log in memory.
 
-Exit status: 0 answered; 1 refused, for one of the 22 reasons that have a
+Exit status: 0 answered; 1 refused, for one of the 23 reasons that have a
 number; 2 misuse, or a file that cannot be read or written; 3 cat met a sector
 that lies in the parent disk; 4 the log asks for more than --max-sectors allows,
 and nothing was written.

@@ -18,5 +18,5 @@ fn the_table_of_refusals() {
         })
         .collect();
     assert_eq!(rows, expected);
-    assert_eq!(rows.len(), 22);
+    assert_eq!(rows.len(), 23);
 }

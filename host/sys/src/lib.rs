@@ -1,6 +1,6 @@
 //! The proved library's functions, as `include/shrunvaki.h` declares them and says what they do. [`shrunvaki::vhdx`] has safe ones.
 //!
-//! What a caller owes: the buffer has `capacity` bytes and the key `key_length`, arrays have the numbers that their types say, none
+//! What a caller owes: the buffer has `capacity` bytes and the key `key_length`, arrays have the numbers or bytes that their types say, none
 //! shares a byte with another, and nobody else writes to them, or reads what is written, during the call. All else may be anything.
 //!
 //! [`shrunvaki::vhdx`]: ../shrunvaki/vhdx/index.html
@@ -23,6 +23,21 @@ extern "C" {
         buffer: *mut u8,
         capacity: usize,
         length: u64,
+        k: u64,
+        answer: *mut [u64; 2],
+    ) -> u64;
+    pub fn shrunvaki_vhdx_close(
+        buffer: *mut u8,
+        capacity: usize,
+        length: u64,
+        identifier: *const [u8; 16],
+        answer: *mut [u64; 3],
+    ) -> u64;
+    pub fn shrunvaki_vhdx_close_step(
+        buffer: *mut u8,
+        capacity: usize,
+        length: u64,
+        identifier: *const [u8; 16],
         k: u64,
         answer: *mut [u64; 2],
     ) -> u64;

@@ -26,7 +26,8 @@ enum Kind {
     Number,
     Size,
     Bytes,
-    Numbers(usize),
+    /// An array: the type of its elements, and how many.
+    Array(&'static str, usize),
 }
 
 impl Parameter {
@@ -54,9 +55,15 @@ impl Parameter {
                 parameter(&length, Kind::Size, false),
             ];
         }
-        let count = target.strip_prefix("[u64; ").expect(kind);
-        let count = count.strip_suffix(']').expect(kind).parse().expect(kind);
-        vec![parameter(name, Kind::Numbers(count), is_const)]
+        let array = target.strip_prefix('[').and_then(|t| t.strip_suffix(']'));
+        let (element, count) = array.and_then(|t| t.split_once("; ")).expect(kind);
+        let element = ["u8", "u64"].into_iter().find(|known| *known == element);
+        let count = count.parse().expect(kind);
+        vec![parameter(
+            name,
+            Kind::Array(element.expect(kind), count),
+            is_const,
+        )]
     }
 
     fn in_c(&self, name: &str) -> String {
@@ -65,7 +72,8 @@ impl Parameter {
             Kind::Number => format!("uint64_t {name}"),
             Kind::Size => format!("size_t {name}"),
             Kind::Bytes => format!("{qualifier}uint8_t *{name}"),
-            Kind::Numbers(count) => format!("{qualifier}uint64_t {name}[{count}]"),
+            Kind::Array("u8", count) => format!("{qualifier}uint8_t {name}[{count}]"),
+            Kind::Array(_, count) => format!("{qualifier}uint64_t {name}[{count}]"),
         }
     }
 
@@ -76,7 +84,7 @@ impl Parameter {
             Kind::Number => format!("{name}: u64"),
             Kind::Size => format!("{name}: usize"),
             Kind::Bytes => format!("{name}: {pointer} u8"),
-            Kind::Numbers(count) => format!("{name}: {pointer} [u64; {count}]"),
+            Kind::Array(element, count) => format!("{name}: {pointer} [{element}; {count}]"),
         }
     }
 }

@@ -135,7 +135,7 @@ fn a_parents_key_is_a_part_of_the_buffer() {
 #[test]
 fn numbers_and_texts_of_refusals() {
     let all: Vec<Refusal> = Refusal::all().collect();
-    assert_eq!(all.len(), 22);
+    assert_eq!(all.len(), 23);
     for (i, refusal) in all.iter().enumerate() {
         assert_eq!(refusal.number(), i as u64 + 1);
         assert_eq!(Refusal::new(refusal.number()), Some(*refusal));
@@ -143,7 +143,7 @@ fn numbers_and_texts_of_refusals() {
         assert_eq!(refusal.to_string(), text);
         assert!(!text.contains('\n') && !refusal.advice().is_empty());
     }
-    for number in [0, 23, 257, u64::MAX] {
+    for number in [0, 24, 257, u64::MAX] {
         assert_eq!(Refusal::new(number), None);
     }
 }

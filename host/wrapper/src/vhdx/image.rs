@@ -7,7 +7,8 @@ use std::path::Path;
 
 /// The first bytes of a buffer, taken for a VHDX file. They may be anything.
 ///
-/// The buffer is a slice, a vector or a [`crate::mapping`], lent or owned. Attach and step need one that can be written.
+/// The buffer is a slice, a vector or a [`crate::mapping`], lent or owned. Attach, close and their steps need one that can be
+/// written.
 #[derive(Debug)]
 pub struct Image<B> {
     buffer: B,
@@ -34,6 +35,15 @@ pub struct Plan {
     pub count: u64,
 }
 
+/// What closing the log answers.
+#[derive(Debug, PartialEq, Eq, Clone, Copy)]
+pub struct Closed {
+    /// Of the image after the call.
+    pub length: u64,
+    /// How many sectors the log wrote; one that it names twice counts twice, the header not at all.
+    pub count: u64,
+}
+
 /// Where the bytes of a sector are.
 #[derive(Debug, PartialEq, Eq, Clone, Copy)]
 pub enum Lookup {
@@ -54,7 +64,7 @@ impl<B: AsRef<[u8]>> Image<B> {
         Image { buffer, length }
     }
 
-    /// In bytes. Attach and step 0 may raise it.
+    /// In bytes. Attach, close and step 0 may raise it.
     pub fn length(&self) -> u64 {
         self.length
     }
@@ -132,6 +142,34 @@ impl<B: AsRef<[u8]> + AsMut<[u8]>> Image<B> {
     /// Does one step of the log's work alone: 0 grows the image, k writes the log's k-th sector. Answers the length after it.
     pub fn step(&mut self, k: u64) -> Result<u64, Refusal> {
         let (refusal, [_, length]) = raw::step(self.buffer.as_mut(), self.length, k);
+        self.stepped(refusal, length)
+    }
+
+    /// Closes the log for good: applies it as attach does, then rewrites the header that is not current, so that no log is pending
+    /// any more. The new header has this file-write identifier, any 16 bytes. Changes nothing where no log is pending, and where
+    /// the call refuses, by 1 to 8 or 23.
+    ///
+    /// After calls that were interrupted anywhere, one close with the same identifier makes the image what an undisturbed one would
+    /// have made it. With another identifier the first stays where its header was written already.
+    pub fn close(&mut self, identifier: &[u8; 16]) -> Result<Closed, Refusal> {
+        let (refusal, [_, length, count]) =
+            raw::close(self.buffer.as_mut(), self.length, identifier);
+        self.length = length;
+        match refusal {
+            0 => Ok(Closed { length, count }),
+            number => Err(Refusal::new(number).expect(NO_ANSWER)),
+        }
+    }
+
+    /// Does one step of closing alone: those of the log's work, then the header's, which is step `count` + 1. Answers the length
+    /// after it. They are to be done in order, from 0 again after an interruption: a header before its sectors loses the log.
+    pub fn close_step(&mut self, identifier: &[u8; 16], k: u64) -> Result<u64, Refusal> {
+        let (refusal, [_, length]) =
+            raw::close_step(self.buffer.as_mut(), self.length, identifier, k);
+        self.stepped(refusal, length)
+    }
+
+    fn stepped(&mut self, refusal: u64, length: u64) -> Result<u64, Refusal> {
         self.length = length;
         match refusal {
             0 => Ok(length),

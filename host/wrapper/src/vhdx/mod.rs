@@ -6,6 +6,6 @@ mod refusal;
 mod ucs2;
 
 pub use facts::{Extent, Facts};
-pub use image::{Attachment, Image, Lookup, Plan};
+pub use image::{Attachment, Closed, Image, Lookup, Plan};
 pub use refusal::Refusal;
 pub use ucs2::{from_ucs2, to_ucs2};

@@ -38,6 +38,45 @@ pub fn step(buffer: &mut [u8], length: u64, k: u64) -> (u64, [u64; 2]) {
     (refusal, answer)
 }
 
+/// Applies the log, then rewrites the header that is not current: no log, and this file-write identifier. Answers the refusal, the
+/// length and the count of sectors, the header not counted.
+pub fn close(buffer: &mut [u8], length: u64, identifier: &[u8; 16]) -> (u64, [u64; 3]) {
+    let mut answer = [UNWRITTEN; 3];
+    // SAFETY: as for attach; the identifier's 16 bytes are read.
+    let refusal = unsafe {
+        sys::shrunvaki_vhdx_close(
+            buffer.as_mut_ptr(),
+            buffer.len(),
+            length,
+            identifier,
+            &mut answer,
+        )
+    };
+    (refusal, answer)
+}
+
+/// Does step `k` of closing alone: those of the log's work, then the header's. Answers the refusal and the length.
+pub fn close_step(
+    buffer: &mut [u8],
+    length: u64,
+    identifier: &[u8; 16],
+    k: u64,
+) -> (u64, [u64; 2]) {
+    let mut answer = [UNWRITTEN; 2];
+    // SAFETY: as for close.
+    let refusal = unsafe {
+        sys::shrunvaki_vhdx_close_step(
+            buffer.as_mut_ptr(),
+            buffer.len(),
+            length,
+            identifier,
+            k,
+            &mut answer,
+        )
+    };
+    (refusal, answer)
+}
+
 /// Where a sector is: 0 refused, 1 in the file, 2 zero, 3 in the parent; then the refusal's number, the offset in the file, or 0.
 #[inline]
 pub fn lookup(facts: &Slots, buffer: &[u8], length: u64, sector: u64) -> (u64, [u64; 2]) {

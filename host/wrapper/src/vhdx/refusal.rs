@@ -2,12 +2,12 @@
 use std::error::Error;
 use std::fmt;
 
-/// Document 01's number, 1 to 22, of the first reason that applies.
+/// Document 01's number, 1 to 22, or document 02's 23, of the first reason that applies.
 #[derive(Debug, PartialEq, Eq, PartialOrd, Ord, Hash, Clone, Copy)]
 pub struct Refusal(u8);
 
 /// What is wrong, and what whoever brought the file can do about it.
-const TEXTS: [(&str, &str); 22] = [
+const TEXTS: [(&str, &str); 23] = [
     (
         "the file is shorter than 1 MiB or longer than the capacity",
         "Below 1 MiB it is no VHDX, or a copy that broke off: copy it again. Above the capacity: give more with --capacity.",
@@ -96,6 +96,10 @@ const TEXTS: [(&str, &str); 22] = [
         "the step's sector ends past the given length",
         "Do step 0 first, which grows the image.",
     ),
+    (
+        "the log cannot be closed: the header's sequence number is at its greatest value",
+        "No program counts that far: take the file for damaged or hostile. Its log can still be applied at each attach, and its disk be read.",
+    ),
 ];
 
 impl Refusal {
@@ -104,12 +108,12 @@ impl Refusal {
         (1..=TEXTS.len() as u8).map(Refusal)
     }
 
-    /// By its number, 1 to 22.
+    /// By its number, 1 to 23.
     pub fn new(number: u64) -> Option<Refusal> {
         Refusal::all().find(|refusal| refusal.number() == number)
     }
 
-    /// Document 01's number.
+    /// The number by which the calls refuse.
     pub fn number(self) -> u64 {
         u64::from(self.0)
     }
