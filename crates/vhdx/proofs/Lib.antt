@@ -3,6 +3,7 @@ pub mod Foretelling
 pub mod Stepping
 pub mod Refusals
 pub mod CrashSafety
+pub mod CloseRefusals
 pub mod CloseSafety
 pub mod Beyond
 pub mod Examples

@@ -31,7 +31,7 @@ use Rattle.vhdx.specs.Refusals.{firstOf, finalOf, ofSome, isNone, header
 
 -- ---- tests, either way round
 
-above : (a b : ℕ) → ltb b a ≡ not (leb a b)
+pub above : (a b : ℕ) → ltb b a ≡ not (leb a b)
 above a b = elim (decLt b a) [ yes h ↦ rw (lt-ltb b a h, lt-leb a b h) | no h ↦ rw (le-ltb b a (omega arith), le-leb a b (omega arith)) ]
 
 not-both : (a b : Bool) → (not a || not b) ≡ not (a && b)

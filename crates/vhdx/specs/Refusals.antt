@@ -1,12 +1,13 @@
--- Document 01's table of refusals, rows 1 to 8, each as a test of its own (document 01, "When the gate says no"). The plan decides
--- them by a chain of tests, one behind the other; that the table says the same is `ByTheTable`.
+-- Document 01's table of refusals, rows 1 to 8, each as a test of its own (document 01, "When the gate says no"), and closing's row 23
+-- behind them (change request Q-6). The plans decide them by a chain of tests, one behind the other; that the table says the same is
+-- `ByTheTable` and `CloseByTheTable`.
 -- Assumes nothing.
 use mathlib.Core.Bool.{Bool, true, false, cond, not, _&&_, _||_}
-use mathlib.Core.List.{List, [], _∷_}
+use mathlib.Core.List.{List, [], _∷_, _++_}
 use mathlib.Core.Option.{Option, none, some}
 use mathlib.Core.Path.{_≡_}
 use Prim.Native.Nat.{ℕ}
-use lib.Dec.{eqb, ltb}
+use lib.Dec.{eqb, leb, ltb}
 use lib.ListN.{length}
 use Rattle.field.specs.Fields.{number, starts}
 use Rattle.extent.specs.Extent.{MiB}
@@ -21,6 +22,7 @@ use Rattle.vhdx_log.specs.Work.{finalLength, someLies, Plan, refused, apply}
 use Rattle.vhdx_log.specs.Plan.{logBytes, extentOf}
 use Rattle.vhdx_replay.specs.Steps.{File}
 use Rattle.vhdx_replay.specs.Calls.{planOf}
+use Rattle.vhdx_close.specs.Close.{greatest, closePlan}
 
 pub record Row : Type 0 where
   pub number : ℕ
@@ -123,3 +125,21 @@ refusalOfPlan (apply m ss) = none
 -- they are the same; so a plan is an application exactly when none of 1 to 8 applies. Proved in proofs/Refusals.antt
 abbrev pub ByTheTable : Type 0
 ByTheTable = (f : File) → refusalOfPlan (planOf f) ≡ firstRow f
+
+-- ---- closing
+
+-- "If the log identifier is already zero it succeeds ..; otherwise a sequence number at its greatest value is refused as 23": no number
+-- of eight bytes is above it
+unfoldable pub row23 : Option ℕ → File → Bool
+row23 c f = ofSome c (λ at. not (eqb (number (headerIn f at .«log_guid»)) 0) && leb greatest (headerIn f at .«sequence_number»))
+
+-- "after 8"
+abbrev pub closeRows : Option ℕ → File → List Row
+closeRows c f = rows c f ++ (record { number = 23; applies = row23 c f } ∷ [])
+
+unfoldable pub firstCloseRow : File → Option ℕ
+firstCloseRow f = firstOf (closeRows (currentOffset (firstMiB (f .buffer))) f)
+
+-- whatever the identifier. Proved in proofs/CloseRefusals.antt
+abbrev pub CloseByTheTable : Type 0
+CloseByTheTable = (identifier : List ℕ) (f : File) → refusalOfPlan (closePlan identifier f) ≡ firstCloseRow f

@@ -53,9 +53,9 @@ answer-length identifier f = go (closePlan identifier f)
     go (apply m ss) = refl
 
 -- a plan that is refused is refused
-refused-either : (identifier : List ℕ) (f : File) (x : ℕ) (a : Answer) → currentHeader (f .buffer) (f .size) ≡ a → planOf f ≡ unplanned x → closePlan identifier f ≡ unplanned x
+pub refused-either : (identifier : List ℕ) (f : File) (x : ℕ) → planOf f ≡ unplanned x → closePlan identifier f ≡ unplanned x
 unfolding closePlan
-refused-either identifier f x a k e = ap₂ (λ (y : Answer) (p : Plan). closing y identifier f p) k e ∙ go a
+refused-either identifier f x e = ap (closing (currentHeader (f .buffer) (f .size)) identifier f) e ∙ go (currentHeader (f .buffer) (f .size))
   where
     go : (a : Answer) → closing a identifier f (unplanned x) ≡ unplanned x
     go (HeaderRefused n) = refl
@@ -210,10 +210,7 @@ module _ (identifier : List ℕ) (sixteen : length identifier ≡ 16) (f : File)
 
   by-plan : (p : Plan) → planOf f ≡ p → {m : ℕ} {us : List Sector} → closePlan identifier f ≡ apply m us → Fits m us f
   unfolding Fits
-  by-plan (unplanned x) e {m} {us} q = let z : _≡_ {A = ℕ} 0 1 = cc (go (currentHeader (f .buffer) (f .size)) refl ∙ q) in absurd (omega arith)
-    where
-      go : (a : Answer) → currentHeader (f .buffer) (f .size) ≡ a → unplanned x ≡ closePlan identifier f
-      go a k = sym (refused-either identifier f x a k e)
+  by-plan (unplanned x) e {m} {us} q = let z : _≡_ {A = ℕ} 0 1 = cc (sym (refused-either identifier f x e) ∙ q) in absurd (omega arith)
   by-plan (apply m′ ss) e {m} {us} q =
       let x = header-of (f .buffer) (f .size) e in
       go (x .0) (x .1) (eqb (number (x .0 .«log_guid»)) 0) (ltb (x .0 .«sequence_number») greatest) refl refl
@@ -269,7 +266,7 @@ closes-for-good identifier sixteen named-bytes o bytes m us q = go (planOf o) re
     sized = ap (λ (p : Plan). runs (steps p) o .size) q ∙ written-size us (run (grow m) o)
 
     go : (p : Plan) → planOf o ≡ p → HasNoLog (afterClose identifier o)
-    go (unplanned x) e = let z : _≡_ {A = ℕ} 0 1 = cc (sym (refused-either identifier o x (currentHeader (o .buffer) (o .size)) refl e) ∙ q) in absurd (omega arith)
+    go (unplanned x) e = let z : _≡_ {A = ℕ} 0 1 = cc (sym (refused-either identifier o x e) ∙ q) in absurd (omega arith)
     go (apply m′ ss) e =
         let x = header-of (o .buffer) (o .size) e in
         by (x .0) (x .1) (eqb (number (x .0 .«log_guid»)) 0) (ltb (x .0 .«sequence_number») greatest) refl refl
