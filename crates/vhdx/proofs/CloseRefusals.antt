@@ -20,7 +20,8 @@ use Rattle.vhdx_log.specs.Work.{Plan, refused, apply}
 use Rattle.vhdx_replay.specs.Steps.{File}
 use Rattle.vhdx_replay.specs.Calls.{planOf}
 use Rattle.vhdx_replay.proofs.Reading.{header-of}
-use Rattle.vhdx_close.specs.Close.{greatest, headerSector, withHeader, closing, closePlan}
+use Rattle.vhdx_rewrite.specs.Rewrite.{greatest}
+use Rattle.vhdx_close.specs.Close.{headerSector, withHeader, closing, closePlan}
 use Rattle.vhdx_close.proofs.Safety.{refused-either}
 use Rattle.vhdx.specs.Refusals.{Row, firstOf, ofSome, headerIn, row23, rows, firstRow, refusalOfPlan, firstCloseRow, CloseByTheTable}
 use Rattle.vhdx.proofs.Refusals.{above, by-the-table}

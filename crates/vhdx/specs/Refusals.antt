@@ -22,7 +22,8 @@ use Rattle.vhdx_log.specs.Work.{finalLength, someLies, Plan, refused, apply}
 use Rattle.vhdx_log.specs.Plan.{logBytes, extentOf}
 use Rattle.vhdx_replay.specs.Steps.{File}
 use Rattle.vhdx_replay.specs.Calls.{planOf}
-use Rattle.vhdx_close.specs.Close.{greatest, closePlan}
+use Rattle.vhdx_rewrite.specs.Rewrite.{greatest}
+use Rattle.vhdx_close.specs.Close.{closePlan}
 
 pub record Row : Type 0 where
   pub number : ℕ

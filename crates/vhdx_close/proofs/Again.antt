@@ -1,74 +1,42 @@
 -- The plan of closing is made again from every file that an unfinished close leaves; and once the header is written, closing has
 -- nothing to do.
 -- Assumes nothing.
-use mathlib.Core.Path.{_≡_, refl, sym, ap, ap₂, subst, _∙_}
-use mathlib.Core.Bool.{Bool, true, false, cond, _&&_}
+use mathlib.Core.Path.{_≡_, sym, ap, ap₂, subst, _∙_}
+use mathlib.Core.Bool.{Bool, true, cond}
 use mathlib.Core.List.{List, [], _∷_, _++_}
 use mathlib.Core.Logic.{_⊎_, inl, inr, ⊎-elim}
-use Prim.Native.Nat.{ℕ, _+_, _-_, _^_, _≤_, _<_}
+use Prim.Native.Nat.{ℕ, _+_, _^_, _≤_, _<_}
 use native.Mathlib.Omega.{arith}
-use lib.Dec.{eqb, leb, ltb}
+use lib.Dec.{eqb, ltb}
 use lib.ListN.{length, take, drop, getD}
-use lib.Seq.{take-take, getD-take, getD-drop}
+use lib.Seq.{take-take}
 use borrow.Author.Tests.{ltb-true, eq-eqb, le-leb}
 use Rattle.decision.specs.Refusal.{check}
-use Rattle.field.specs.declared.Guid.{Guid}
 use Rattle.field.specs.Fields.{number, starts}
 use Rattle.extent.specs.Extent.{MiB}
 use Rattle.vhdx_header.specs.declared.Header.{Header}
 use Rattle.vhdx_header.specs.declared.Answer.{Answer}
 use Rattle.vhdx_header.specs.declared.Answer.the-variants.{Current}
-use Rattle.vhdx_header.specs.Header.{sequenceNumber, logOffset, logLength, validHeader, fieldRules, contents}
-use Rattle.vhdx_header.specs.Current.{vhdxfile, slot1, slot2, headerAt, firstMiB, currentHeader, otherSlot}
+use Rattle.vhdx_header.specs.Header.{sequenceNumber, validHeader, fieldRules, contents}
+use Rattle.vhdx_header.specs.Current.{vhdxfile, headerAt, firstMiB, currentHeader, otherSlot}
 use Rattle.vhdx_header.proofs.Laws.{accepted}
-use Rattle.vhdx_header.proofs.Standing.{Rules, Slots, Standing, standing, current-by}
+use Rattle.vhdx_header.proofs.Standing.{Slots, Standing, standing, current-by}
 use Rattle.vhdx_walk.specs.Entries.{Sector, lengthLimit}
 use Rattle.vhdx_log.specs.Work.{Plan, refused, apply, applyWithin}
 use Rattle.vhdx_log.specs.Plan.{logBytes, extentOf, planLog, planHeader, plan}
 use Rattle.vhdx_log.proofs.Again.{plan-again-by}
-use Rattle.vhdx_replay.specs.Steps.{File, end, In}
+use Rattle.vhdx_replay.specs.Steps.{File}
 use Rattle.vhdx_replay.specs.Calls.{planOf}
 use Rattle.vhdx_replay.proofs.Bytes.{part-long}
-use Rattle.vhdx_replay.proofs.Assembled.{inner-part}
 use Rattle.vhdx_replay.proofs.Reading.{applied, same-part}
 use Rattle.vhdx_replay.proofs.Sectors.{Kept}
-use Rattle.vhdx_close.specs.Rewrite.{closedHeader, Bytes}
-use Rattle.vhdx_close.specs.Close.{greatest, slotIn, headerSector, withHeader, closing, closePlan}
+use Rattle.vhdx_rewrite.specs.Rewrite.{closedHeader, Bytes}
+use Rattle.vhdx_rewrite.specs.Rewrite.{greatest}
+use Rattle.vhdx_close.specs.Close.{slotIn, headerSector, withHeader, closing, closePlan}
 use Rattle.vhdx_close.specs.Safety.{HasNoLog}
-use Rattle.vhdx_close.proofs.Parts.{starts-same, bytes-take, bytes-drop}
-use Rattle.vhdx_close.proofs.Rewriting.{closed-long, closed-number, closed-guid, closed-rest, closed-valid, closed-rules}
-
--- ---- slots of a buffer
-
--- either slot lies in the first MiB
-pub slots-low : {a b : ℕ} → Slots a b → (65536 ≤ a) × (a + 4096 ≤ MiB) × (65536 ≤ b) × (b + 4096 ≤ MiB)
-slots-low s = ⊎-elim (λ x. (omega (arith, x .0), omega (arith, x .0), omega (arith, x .1), omega (arith, x .1))) (λ x. (omega (arith, x .0), omega (arith, x .0), omega (arith, x .1), omega (arith, x .1))) s
-
--- and they are apart
-pub slots-apart : {a b : ℕ} → Slots a b → (a + 4096 ≤ b) ⊎ (b + 4096 ≤ a)
-slots-apart s = ⊎-elim (λ x. inl (omega (arith, x .0, x .1))) (λ x. inr (omega (arith, x .0, x .1))) s
-
-pub slots-back : {a b : ℕ} → Slots a b → otherSlot b ≡ a
-slots-back s = ⊎-elim (λ x. ap otherSlot (x .1) ∙ sym (x .0)) (λ x. ap otherSlot (x .1) ∙ sym (x .0)) s
-
-pub slots-turned : {a b : ℕ} → Slots a b → Slots b a
-slots-turned s = ⊎-elim (λ x. inr (x .1, x .0)) (λ x. inl (x .1, x .0)) s
-
-pub slot-part : (b : List ℕ) (a : ℕ) → a + 4096 ≤ MiB → MiB ≤ length b → headerAt (firstMiB b) a ≡ take 4096 (drop a b)
-unfolding headerAt firstMiB
-slot-part b a l h =
-    inner-part b 0 MiB a 4096 h l ∙ ap (λ (k : ℕ). take 4096 (drop k b)) {x = 0 + a} {y = a} (omega arith)
-
-pub slot-same : (b b′ : List ℕ) (a : ℕ) → length b′ ≡ length b → a + 4096 ≤ MiB → MiB ≤ length b
-    → ((i : ℕ) → a ≤ i → i < a + 4096 → getD b′ i 0 ≡ getD b i 0) → headerAt (firstMiB b′) a ≡ headerAt (firstMiB b) a
-slot-same b b′ a e l h s =
-    slot-part b′ a l (omega arith) ∙ same-part a 4096 b b′ e (omega arith) s ∙ sym (slot-part b a l h)
-
-pub slot-byte : (b : List ℕ) (a i : ℕ) → a + 4096 ≤ MiB → MiB ≤ length b → a ≤ i → i < a + 4096 → getD b i 0 ≡ getD (headerAt (firstMiB b) a) (i - a) 0
-slot-byte b a i l h from to =
-    sym (ap (λ (x : List ℕ). getD x (i - a) 0) (slot-part b a l h)
-    ∙ getD-take 4096 (drop a b) (i - a) 0 (omega arith) ∙ getD-drop a b (i - a) 0
-    ∙ ap (λ (n : ℕ). getD b n 0) {x = a + (i - a)} {y = i} (omega arith))
+use Rattle.vhdx_rewrite.proofs.Parts.{starts-same, bytes-take, bytes-drop}
+use Rattle.vhdx_rewrite.proofs.Slots.{slots-low, slots-apart, slots-back, slots-turned, slot-part, slot-same}
+use Rattle.vhdx_rewrite.proofs.Rewriting.{closed-number, closed-guid, closed-rest, closed-valid, closed-rules}
 
 begins-same : (b b′ : List ℕ) → length b′ ≡ length b → MiB ≤ length b → ((i : ℕ) → i < 8 → getD b′ i 0 ≡ getD b i 0)
     → starts (firstMiB b′) vhdxfile ≡ starts (firstMiB b) vhdxfile

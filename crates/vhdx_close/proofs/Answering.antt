@@ -3,7 +3,7 @@
 use mathlib.Core.Path.{_≡_, refl, sym, ap, ap₂, subst, _∙_}
 use mathlib.Core.Bool.{Bool, true, false}
 use mathlib.Core.List.{List, [], _∷_, _++_, map}
-use mathlib.Core.Option.{Option, none, some}
+use mathlib.Core.Option.{none, some}
 use mathlib.Core.Logic.{_⊎_, inl, inr, ⊎-elim}
 use Prim.Native.Nat.{ℕ, zero, suc, _+_, _-_, _≤_, _<_}
 use native.Mathlib.Numerals.{add-one}
@@ -12,8 +12,6 @@ use lib.Dec.{leb}
 use lib.ListN.{length, take, getElem?, length-append}
 use borrow.Author.Tests.{le-leb}
 use Rattle.decision.specs.Refusal.{Outcome, refused as declined, answered, check, refusalOf}
-use Rattle.extent.specs.Extent.{MiB}
-use Rattle.vhdx_header.specs.declared.Header.{Header}
 use Rattle.vhdx_header.specs.Header.{sequenceNumber}
 use Rattle.vhdx_header.specs.Current.{headerAt, firstMiB, otherSlot}
 use Rattle.vhdx_header.proofs.Laws.{accepted}
@@ -23,14 +21,16 @@ use Rattle.vhdx_log.specs.Work.{Plan, refused, apply, count}
 use Rattle.vhdx_log.specs.Plan.{plan}
 use Rattle.vhdx_replay.specs.Buffer.{put}
 use Rattle.vhdx_replay.specs.Steps.{File, Step, grow, write, run, runs, end, steps, admitted, chosen, stepsOf, single}
-use Rattle.vhdx_replay.specs.Calls.{file, planOf}
+use Rattle.vhdx_replay.specs.Calls.{file}
 use Rattle.vhdx_close.specs.declared.Closed.{Closed}
 use Rattle.vhdx_replay.specs.declared.Stepped.{Stepped}
 use Rattle.vhdx_close.specs.declared.Job.{Job}
-use Rattle.vhdx_close.specs.Rewrite.{closedHeader}
-use Rattle.vhdx_close.specs.Close.{greatest, slotIn, headerSector, closePlan, afterClose, afterCloseStep, closedBy, closeAnswer, closeStepAnswer}
-use Rattle.vhdx_close.specs.Deciding.{Closable, headerWritten, Doable}
-use Rattle.vhdx_close.proofs.Again.{slots-low}
+use Rattle.vhdx_rewrite.specs.Rewrite.{closedHeader}
+use Rattle.vhdx_rewrite.specs.Rewrite.{greatest}
+use Rattle.vhdx_close.specs.Close.{closePlan, afterClose, afterCloseStep, closedBy, closeAnswer, closeStepAnswer}
+use Rattle.vhdx_rewrite.specs.Writing.{Closable, headerWritten}
+use Rattle.vhdx_close.specs.Deciding.{Doable}
+use Rattle.vhdx_rewrite.proofs.Slots.{slots-low}
 use Rattle.vhdx_close.proofs.Doing.{ss, c, log-plan, plain-plan, header-plan, below}
 
 -- ---- lists of sectors

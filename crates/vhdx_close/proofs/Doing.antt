@@ -2,16 +2,14 @@
 -- Assumes nothing.
 use mathlib.Core.Path.{_≡_, refl, sym, ap, ap₂, subst, _∙_}
 use mathlib.Core.Bool.{Bool, true, false, cond}
-use mathlib.Core.List.{List, [], _∷_, _++_, map}
+use mathlib.Core.List.{List, [], _∷_, _++_}
 use mathlib.Core.Logic.{_⊎_, inl, inr, ⊎-elim}
-use mathlib.Core.Option.{Option, none, some}
-use Prim.Native.Nat.{ℕ, zero, suc, _+_, _≤_, _<_}
-use native.Mathlib.Numerals.{add-one}
+use Prim.Native.Nat.{ℕ, _+_, _≤_, _<_}
 use native.Mathlib.Omega.{arith}
-use lib.Dec.{eqb, ltb, leb}
-use lib.ListN.{length, take, drop, getD, getElem?, length-append}
-use borrow.Author.Tests.{ltb-true, le-leb}
-use Rattle.decision.specs.Refusal.{Outcome, refused as declined, answered, check, refusalOf}
+use lib.Dec.{eqb, ltb}
+use lib.ListN.{length, take, getD}
+use borrow.Author.Tests.{ltb-true}
+use Rattle.decision.specs.Refusal.{check}
 use Rattle.field.specs.Fields.{number}
 use Rattle.extent.specs.declared.Extent.{Extent}
 use Rattle.extent.specs.Extent.{MiB}
@@ -27,24 +25,24 @@ use Rattle.vhdx_log.specs.declared.Work.{Work}
 use Rattle.vhdx_log.specs.declared.Answer.{Answer}
 use Rattle.vhdx_log.specs.declared.Answer.the-variants.{Refused as LogRefused, Apply}
 use Rattle.vhdx_log.specs.Work.{Plan, refused, apply, count}
-use Rattle.vhdx_log.specs.Plan.{extentOf, plan, planHeader}
+use Rattle.vhdx_log.specs.Plan.{plan, planHeader}
 use Rattle.vhdx_log.specs.Answers.{logOf, planIn, countOf, ReadyIn, planOf as planBy}
-use Rattle.vhdx_replay.specs.Buffer.{put, zeroed}
-use Rattle.vhdx_replay.specs.Steps.{File, Step, grow, write, run, runs, end, steps, admitted, chosen, stepsOf, single}
-use Rattle.vhdx_replay.specs.Calls.{file, planOf}
+use Rattle.vhdx_replay.specs.Buffer.{put}
+use Rattle.vhdx_replay.specs.Steps.{File, Step, grow, run, runs, steps}
+use Rattle.vhdx_replay.specs.Calls.{file}
 use Rattle.vhdx_replay.specs.Planned.{logExtent, Planned}
-use Rattle.vhdx_replay.proofs.Applying.{planned, header, here, plan-is, known, all-steps, extent-is}
+use Rattle.vhdx_replay.proofs.Applying.{planned, header, here, plan-is, all-steps}
 use Rattle.vhdx_replay.proofs.Reading.{same-first, reads}
 use Rattle.vhdx_replay.proofs.Restart.{Inv, ran, whole, good, first, untouched}
-use Rattle.vhdx_close.specs.declared.Closed.{Closed}
-use Rattle.vhdx_replay.specs.declared.Stepped.{Stepped}
 use Rattle.vhdx_close.specs.declared.Job.{Job}
 use Rattle.vhdx_close.specs.declared.Ending.{Ending}
 use Rattle.vhdx_close.specs.declared.Ending.the-variants.{Nothing, TooGreat, Rewrite}
-use Rattle.vhdx_close.specs.Rewrite.{closedHeader}
+use Rattle.vhdx_rewrite.specs.Rewrite.{closedHeader}
 use Rattle.vhdx_close.proofs.Order.{runs-snoc}
-use Rattle.vhdx_close.specs.Close.{greatest, slotIn, headerSector, withHeader, closing, closePlan, afterClose, afterCloseStep, closedBy, closeAnswer, closeStepAnswer}
-use Rattle.vhdx_close.specs.Deciding.{Closable, headerWritten, endingOf, Doable}
+use Rattle.vhdx_rewrite.specs.Rewrite.{greatest}
+use Rattle.vhdx_close.specs.Close.{slotIn, headerSector, withHeader, closing, closePlan, afterClose}
+use Rattle.vhdx_rewrite.specs.Writing.{Closable, headerWritten}
+use Rattle.vhdx_close.specs.Deciding.{endingOf, Doable}
 
 -- ---- what is decided
 

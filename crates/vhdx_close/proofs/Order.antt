@@ -9,9 +9,9 @@ use mathlib.Core.Option.{Option, some}
 use Prim.Native.Nat.{ℕ, zero, suc, _+_, _-_, _≤_, _<_}
 use native.Mathlib.Nat.{add-zero, add-suc}
 use native.Mathlib.Omega.{arith}
-use lib.Dec.{eqb, leb, ltb}
+use lib.Dec.{eqb, ltb}
 use lib.ListN.{length, take, drop, getD, getElem?, length-append, drop-of-length-le}
-use lib.Seq.{drop-cons, take-suc, take-all, drop-append-seam, getD-append-seam, getD-take, getD-drop}
+use lib.Seq.{drop-cons, take-suc, take-all, drop-append-seam, getD-append-seam}
 use borrow.Author.Tests.{le-leb}
 use Rattle.decision.specs.Refusal.{Outcome, refused, answered, check}
 use Rattle.field.specs.Fields.{number}
@@ -20,7 +20,7 @@ use Rattle.vhdx_header.specs.declared.Header.{Header}
 use Rattle.vhdx_header.specs.declared.Answer.{Answer}
 use Rattle.vhdx_header.specs.declared.Answer.the-variants.{Current}
 use Rattle.vhdx_header.specs.Header.{validHeader}
-use Rattle.vhdx_header.specs.Current.{headerAt, firstMiB, currentHeader, otherSlot}
+use Rattle.vhdx_header.specs.Current.{currentHeader, otherSlot}
 use Rattle.vhdx_header.proofs.Laws.{accepted}
 use Rattle.vhdx_walk.specs.Entries.{Sector}
 use Rattle.vhdx_log.specs.Work.{Plan, refused as unplanned, apply}
@@ -29,17 +29,19 @@ use Rattle.vhdx_replay.specs.Steps.{File, end, In, Named, Step, grow, write, ru
 use Rattle.vhdx_replay.specs.Buffer.{put}
 use Rattle.vhdx_replay.specs.Calls.{planOf}
 use Rattle.vhdx_replay.proofs.Every.{All, all-append}
-use Rattle.vhdx_replay.proofs.Bytes.{lt-or-le, put-length, put-in, put-out, zeroed-length, zeroed-in, zeroed-low}
+use Rattle.vhdx_replay.proofs.Bytes.{lt-or-le, put-length, put-out, zeroed-length, zeroed-low}
 use Rattle.vhdx_replay.proofs.Restart.{EndBy, Inv, at-first, Good, done, keeps, ran, whole, writes-good, Agree, in-or-out, meet-one, grown-alike, all-done, Reads}
 use Rattle.vhdx_replay.proofs.Reading.{reads}
 use Rattle.vhdx_replay.proofs.Sectors.{Kept, clash}
-use Rattle.vhdx_close.specs.Rewrite.{closedHeader, Bytes}
-use Rattle.vhdx_close.specs.Close.{greatest, slotIn, headerSector, closing, closePlan, afterClose, afterCloseStep}
+use Rattle.vhdx_rewrite.specs.Rewrite.{closedHeader, Bytes}
+use Rattle.vhdx_rewrite.specs.Rewrite.{greatest}
+use Rattle.vhdx_close.specs.Close.{slotIn, headerSector, closing, closePlan, afterClose, afterCloseStep}
 use Rattle.vhdx_close.specs.Calls.{WholeBy, WholeIfValid, Calls, none, close, step, refuse, interrupted-close, interrupted-step}
 use Rattle.vhdx_close.specs.Safety.{HasNoLog}
-use Rattle.vhdx_close.proofs.Parts.{part-in}
-use Rattle.vhdx_close.proofs.Rewriting.{closed-long}
-use Rattle.vhdx_close.proofs.Again.{slots-low, slot-same, slot-part, slot-byte, current-kept, slots-of, long, KeptHere, still-current, close-again, close-done, gone}
+use Rattle.vhdx_rewrite.proofs.Parts.{part-in}
+use Rattle.vhdx_rewrite.proofs.Rewriting.{closed-long}
+use Rattle.vhdx_rewrite.proofs.Slots.{slots-low, slot-same, slot-part, slot-byte}
+use Rattle.vhdx_close.proofs.Again.{current-kept, slots-of, long, KeptHere, still-current, close-again, close-done, gone}
 
 -- ---- what a run of steps can be
 

@@ -4,7 +4,7 @@
 use mathlib.Core.Path.{_≡_, refl, sym, ap, ap₂, subst, _∙_}
 use mathlib.Core.Bool.{Bool, true, false, cond, _&&_}
 use mathlib.Core.List.{List, [], _∷_, _++_}
-use mathlib.Core.Logic.{_⊎_, inl, inr, ⊎-elim}
+use mathlib.Core.Logic.{inl, inr}
 use Prim.Native.Nat.{ℕ, zero, _+_, _≤_, _<_}
 use native.Mathlib.Omega.{arith}
 use lib.Dec.{eqb, leb, ltb}
@@ -13,11 +13,10 @@ use borrow.Author.Tests.{eqb-true}
 use Rattle.decision.specs.Refusal.{check}
 use Rattle.field.specs.Fields.{number}
 use Rattle.extent.specs.declared.Extent.{Extent}
-use Rattle.extent.specs.Extent.{MiB, part}
+use Rattle.extent.specs.Extent.{part}
 use Rattle.vhdx_header.specs.declared.Header.{Header}
 use Rattle.vhdx_header.specs.declared.Answer.{Answer}
 use Rattle.vhdx_header.specs.declared.Answer.the-variants.{Refused as HeaderRefused, Current}
-use Rattle.vhdx_header.specs.Header.{validHeader}
 use Rattle.vhdx_header.specs.Current.{currentHeader, otherSlot}
 use Rattle.vhdx_header.proofs.Laws.{accepted}
 use Rattle.vhdx_walk.specs.Entries.{Sector, lengthLimit}
@@ -25,7 +24,7 @@ use Rattle.vhdx_log.specs.Work.{Plan, refused as unplanned, apply, applyWithin,
 use Rattle.vhdx_log.specs.Plan.{logBytes, extentOf, planSequence, planLog, planHeader, plan}
 use Rattle.vhdx_log.proofs.Again.{passed}
 use Rattle.vhdx_sequence.specs.Sequence.{activeSequence}
-use Rattle.vhdx_replay.specs.Steps.{File, Named, Step, run, runs, grow, Ran, steps, single}
+use Rattle.vhdx_replay.specs.Steps.{File, Named, run, runs, grow, Ran, steps, single}
 use Rattle.vhdx_replay.specs.Calls.{planOf}
 use Rattle.vhdx_replay.specs.Planned.{logExtent}
 use Rattle.vhdx_replay.proofs.Every.{All}
@@ -34,13 +33,14 @@ use Rattle.vhdx_replay.proofs.Applying.{extent-is}
 use Rattle.vhdx_replay.proofs.Reading.{header-of, reads, same-part}
 use Rattle.vhdx_replay.proofs.Restart.{EndBy, Inv, Good, writes-good, beyond, ran, whole, admitted-good, Agree, same-image, all-done, Reads, untouched, planned, good, first}
 use Rattle.vhdx_replay.proofs.Sectors.{Kept}
-use Rattle.vhdx_close.specs.declared.Closed.{Closed}
-use Rattle.vhdx_close.specs.Rewrite.{Bytes}
-use Rattle.vhdx_close.specs.Close.{greatest, slotIn, headerSector, closing, closedBy, closePlan, afterClose, afterCloseStep, closeAnswer}
+use Rattle.vhdx_rewrite.specs.Rewrite.{Bytes}
+use Rattle.vhdx_rewrite.specs.Rewrite.{greatest}
+use Rattle.vhdx_close.specs.Close.{slotIn, headerSector, closing, closedBy, closePlan, afterClose, afterCloseStep, closeAnswer}
 use Rattle.vhdx_close.specs.Calls.{Calls, none, close, step, refuse, interrupted-close, interrupted-step}
 use Rattle.vhdx_close.specs.Safety.{Recloses, CloseSafe, NothingBeyondClose, HasNoLog, ClosesForGood}
 use Rattle.vhdx_close.proofs.Answering.{written-size}
-use Rattle.vhdx_close.proofs.Again.{slots-low, slot-same, slots-of, KeptHere, still-current, close-again}
+use Rattle.vhdx_rewrite.proofs.Slots.{slots-low, slot-same}
+use Rattle.vhdx_close.proofs.Again.{slots-of, KeptHere, still-current, close-again}
 use Rattle.vhdx_close.proofs.Order.{ran-nil, refused-same, untouched as kept-here, plan-is, ends, for-good, closed-by-calls}
 
 -- the answered length is the file's

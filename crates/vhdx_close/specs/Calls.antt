@@ -13,7 +13,7 @@ use Rattle.vhdx_header.specs.declared.Answer.the-variants.{Refused as HeaderRef
 use Rattle.vhdx_header.specs.Header.{validHeader}
 use Rattle.vhdx_header.specs.Current.{currentHeader, otherSlot}
 use Rattle.vhdx_replay.specs.Steps.{File, Ran, steps, chosen, single}
-use Rattle.vhdx_close.specs.Rewrite.{closedHeader}
+use Rattle.vhdx_rewrite.specs.Rewrite.{closedHeader}
 use Rattle.vhdx_close.specs.Close.{slotIn, closePlan, afterClose, afterCloseStep}
 
 -- "the premise that a half-written header isn't valid", of an interrupted call that takes f to g: where the slot of the header that

@@ -17,12 +17,8 @@ use Rattle.vhdx_log.specs.Work.{Plan, refused, apply, count}
 use Rattle.vhdx_replay.specs.declared.Stepped.{Stepped}
 use Rattle.vhdx_replay.specs.Steps.{File, runs, steps, chosen, single}
 use Rattle.vhdx_replay.specs.Calls.{planOf}
-use Rattle.vhdx_close.specs.Rewrite.{closedHeader}
+use Rattle.vhdx_rewrite.specs.Rewrite.{greatest, closedHeader}
 use Rattle.vhdx_close.specs.declared.Closed.{Closed}
-
--- a sequence number's "greatest value", 2^64 - 1
-abbrev pub greatest : ℕ
-greatest = 18446744073709551615
 
 -- the header at an offset of a file
 abbrev pub slotIn : File → ℕ → List ℕ

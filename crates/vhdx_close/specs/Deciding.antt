@@ -2,23 +2,18 @@
 -- Assumes nothing.
 use mathlib.Core.Bool.{cond}
 use mathlib.Core.List.{List}
-use mathlib.Core.Logic.{_⊎_}
 use mathlib.Core.Path.{_≡_}
-use Prim.Native.Nat.{ℕ, _≤_, _<_}
+use Prim.Native.Nat.{ℕ}
 use lib.Dec.{eqb, ltb}
-use lib.ListN.{length}
 use Rattle.field.specs.Fields.{number}
-use Rattle.extent.specs.Extent.{MiB}
-use Rattle.vhdx_header.specs.Header.{sequenceNumber}
 use Rattle.vhdx_header.specs.declared.Header.{Header}
 use Rattle.vhdx_header.specs.declared.Answer.the-variants.{Current}
-use Rattle.vhdx_header.specs.Current.{slot1, slot2, headerAt, firstMiB, currentHeader, otherSlot}
+use Rattle.vhdx_header.specs.Current.{currentHeader}
 use Rattle.vhdx_log.specs.Work.{refused}
-use Rattle.vhdx_replay.specs.Buffer.{put}
 use Rattle.vhdx_replay.specs.Calls.{file}
 use Rattle.vhdx_replay.specs.Planned.{Planned}
-use Rattle.vhdx_close.specs.Rewrite.{closedHeader}
-use Rattle.vhdx_close.specs.Close.{greatest, closePlan}
+use Rattle.vhdx_rewrite.specs.Rewrite.{greatest}
+use Rattle.vhdx_close.specs.Close.{closePlan}
 use Rattle.vhdx_close.specs.declared.Job.{Job}
 use Rattle.vhdx_close.specs.declared.Task.{Task}
 use Rattle.vhdx_close.specs.declared.Task.the-variants.{Refused, Do}
@@ -41,13 +36,3 @@ pub record Doable (buffer : List ℕ) (n : ℕ) (job : Job) : Type 0 where
 abbrev pub Decided : List ℕ → ℕ → Task → Type 0
 Decided buffer n (Refused c) = (identifier : List ℕ) → refused c ≡ closePlan identifier (file buffer n)
 Decided buffer n (Do job) = Doable buffer n job
-
--- a header that stands in one of the slots of a buffer, whose sequence number can be raised
-pub record Closable (buffer : List ℕ) (slot : ℕ) : Type 0 where
-  pub large : MiB ≤ length buffer
-  pub placed : (slot ≡ slot1) ⊎ (slot ≡ slot2)
-  pub below : sequenceNumber (headerAt (firstMiB buffer) slot) < greatest
-
--- the buffer with the header in the other slot rewritten
-unfoldable pub headerWritten : List ℕ → ℕ → List ℕ → List ℕ
-headerWritten buffer slot identifier = put buffer (otherSlot slot) (closedHeader (headerAt (firstMiB buffer) slot) identifier)

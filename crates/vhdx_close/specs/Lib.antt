@@ -1,4 +1,3 @@
-pub mod Rewrite
 pub mod Close
 pub mod Deciding
 pub mod Calls

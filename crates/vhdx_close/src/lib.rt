@@ -1,8 +1,4 @@
 // Closing a log for good (change request Q-6): the log's work as attach does it, then the header that is not current rewritten.
-// Its modules: `number`, a number as bytes; `header`, the header that closing writes.
-mod header;
-mod number;
-
 use extent::Extent;
 use vhdx_header::Header;
 use vhdx_log::Work;
@@ -138,7 +134,7 @@ fn carry_out(buffer: &mut [u8], length: u64, identifier: &[u8; 16], job: Job)
     let log = job.log;
     vhdx_replay::first_steps(buffer, length, log, work, work.count);
     if job.rewrite {
-        header::write(buffer, job.slot, identifier);
+        vhdx_rewrite::write(buffer, job.slot, identifier);
     }
 }
 
@@ -183,7 +179,7 @@ fn write_one(buffer: &mut [u8], length: u64, identifier: &[u8; 16], job: Job, i:
     }
     if job.rewrite {
         if i == work.count {
-            header::write(buffer, job.slot, identifier);
+            vhdx_rewrite::write(buffer, job.slot, identifier);
             return 0;
         }
     }

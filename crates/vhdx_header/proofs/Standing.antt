@@ -2,21 +2,20 @@
 -- current again, so that a change of the other slot is judged by them.
 -- Assumes nothing.
 use mathlib.Core.Path.{_≡_, refl, sym, ap, subst, _∙_}
-use mathlib.Core.Bool.{Bool, true, false, cond, _&&_}
+use mathlib.Core.Bool.{Bool, true, false, cond}
 use mathlib.Core.List.{List}
 use mathlib.Core.Logic.{_⊎_, inl, inr, ⊎-elim}
 use Prim.Native.Nat.{ℕ, _+_, _≤_, _<_}
 use native.Mathlib.Omega.{arith}
-use lib.Dec.{leb, ltb}
+use lib.Dec.{ltb}
 use lib.ListN.{length}
 use borrow.Author.Tests.{ltb-true, lt-ltb, le-ltb, le-leb}
 use Rattle.decision.specs.Refusal.{check}
 use Rattle.field.specs.Fields.{starts}
 use Rattle.extent.specs.Extent.{MiB}
-use Rattle.vhdx_header.specs.Header.{sequenceNumber, validHeader, fieldRules, insideRule, contents}
-use Rattle.vhdx_header.specs.Current.{vhdxfile, slot1, slot2, headerAt, chosenSlot, currentSlot, readHeader, readSlot, readFirstMiB, withinImage, firstMiB, currentHeader, otherSlot}
+use Rattle.vhdx_header.specs.Header.{sequenceNumber, validHeader, fieldRules, contents}
+use Rattle.vhdx_header.specs.Current.{vhdxfile, slot1, slot2, headerAt, chosenSlot, currentSlot, readHeader, readSlot, readFirstMiB, firstMiB, currentHeader, otherSlot}
 use Rattle.vhdx_header.specs.declared.Header.{Header}
-use Rattle.vhdx_header.specs.declared.Answer.{Answer}
 use Rattle.vhdx_header.specs.declared.Answer.the-variants.{Refused, Current}
 use Rattle.vhdx_header.specs.declared.choice.Slot.{Slot}
 use Rattle.vhdx_header.specs.declared.choice.Slot.the-variants.{Neither, First, Second}

@@ -1,6 +1,5 @@
 -- `vhdx_close::write_one` meets its contract: a sector of the log, the header behind the last one, or 21.
 -- Assumes nothing.
-use mathlib.Core.Path.{sym, _∙_}
 use native.Mathlib.Omega.{arith}
 use Rattle.vhdx_replay.proofs.Sectors.{clash}
 use Rattle.vhdx_close.proofs.Answering.{sector-step, no-step, closable-now, header-step}

@@ -1,20 +1,19 @@
 -- The write of the header, from what its parts promise.
 -- Assumes nothing.
-use mathlib.Core.Path.{_≡_, refl, sym, ap, subst, _∙_}
+use mathlib.Core.Path.{_≡_, sym, ap, subst, _∙_}
 use mathlib.Core.List.{List}
-use mathlib.Core.Logic.{_⊎_, inl, inr, ⊎-elim}
+use mathlib.Core.Logic.{_⊎_, ⊎-elim}
 use Prim.Native.Nat.{ℕ, _+_, _-_, _≤_, _<_}
 use native.Mathlib.Omega.{arith}
 use lib.ListN.{length, take, drop}
 use Rattle.extent.specs.Extent.{MiB}
 use Rattle.vhdx_header.specs.Header.{sequenceNumber}
-use Rattle.vhdx_header.specs.Current.{slot1, slot2, headerAt, firstMiB, otherSlot}
+use Rattle.vhdx_header.specs.Current.{headerAt, firstMiB, otherSlot}
 use Rattle.vhdx_replay.specs.Buffer.{put}
 use Rattle.vhdx_replay.proofs.Bytes.{part-long}
-use Rattle.vhdx_close.specs.Rewrite.{closedHeader}
-use Rattle.vhdx_close.specs.Close.{greatest}
-use Rattle.vhdx_close.specs.Deciding.{Closable, headerWritten}
-use Rattle.vhdx_close.proofs.Again.{slot-part}
+use Rattle.vhdx_rewrite.specs.Rewrite.{greatest, closedHeader}
+use Rattle.vhdx_rewrite.specs.Writing.{Closable, headerWritten}
+use Rattle.vhdx_rewrite.proofs.Slots.{slot-part}
 
 module _ (b : List ℕ) (slot : ℕ) (p : Closable b slot) where
   pub low : slot + 4096 ≤ MiB

@@ -3,7 +3,7 @@
 use mathlib.Core.Path.{_≡_, refl, sym, ap, ap₂, _∙_}
 use mathlib.Core.Bool.{Bool, _&&_}
 use mathlib.Core.List.{List, [], _∷_, _++_}
-use mathlib.Core.Logic.{_⊎_, inl, inr, ⊎-elim}
+use mathlib.Core.Logic.{_⊎_, ⊎-elim}
 use Prim.Native.Nat.{ℕ, zero, suc, _+_, _-_, _*_, _/_, _%_, _^_, _≤_, _<_}
 use native.Mathlib.Nat.{mod-lt, pow-suc, div-add-mod'}
 use native.Mathlib.Omega.{arith}
@@ -16,7 +16,7 @@ use Rattle.crc32c.specs.Crc.{poly, ones, bit, bits, byte, updates, crc, zeroed}
 use Rattle.vhdx_replay.specs.Buffer.{put}
 use Rattle.vhdx_replay.proofs.Bytes.{part-long, put-length, put-in, put-out}
 use Rattle.vhdx_replay.proofs.Reading.{same-part}
-use Rattle.vhdx_close.specs.Rewrite.{leBytes, Bytes}
+use Rattle.vhdx_rewrite.specs.Rewrite.{leBytes, Bytes}
 
 -- ---- a number as bytes
 

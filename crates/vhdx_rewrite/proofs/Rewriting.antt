@@ -1,25 +1,24 @@
 -- The header that closing writes: it is valid, its number is one greater, it names no log, and all else is the current one's.
 -- Assumes nothing.
-use mathlib.Core.Path.{_≡_, refl, sym, ap, ap₂, _∙_}
+use mathlib.Core.Path.{_≡_, sym, ap, ap₂, _∙_}
 use mathlib.Core.Bool.{Bool, true, _&&_, _||_, and-eq-true-iff}
 use mathlib.Core.List.{List, _++_, append-nil}
 use mathlib.Core.Logic.{inl, inr}
 use Prim.Native.Nat.{ℕ, _+_, _*_, _^_, _≤_, _<_}
 use native.Mathlib.Omega.{arith}
 use lib.Dec.{eqb, leb}
-use lib.ListN.{length, take, drop, replicate, length-replicate, drop-of-length-le}
+use lib.ListN.{length, take, replicate, length-replicate, drop-of-length-le}
 use borrow.Author.Tests.{eq-eqb}
 use Rattle.field.specs.declared.Guid.{Guid}
-use Rattle.field.specs.Fields.{le, field, guidAt, number, starts}
+use Rattle.field.specs.Fields.{field, number, starts}
 use Rattle.field.proofs.Laws.{field-add}
 use Rattle.extent.specs.Extent.{MiB, wholeMiB}
 use Rattle.crc32c.specs.Crc.{crc, zeroed}
-use Rattle.vhdx_header.specs.Header.{checksum, sequenceNumber, logGuid, logVersion, version, logLength, logOffset, head, validHeader, versionRule, logVersionRule, logLimit, fieldRules, contents}
-use Rattle.vhdx_header.specs.declared.Header.{Header}
+use Rattle.vhdx_header.specs.Header.{checksum, sequenceNumber, logGuid, logVersion, logLength, logOffset, head, validHeader, versionRule, logVersionRule, logLimit, fieldRules, contents}
 use Rattle.vhdx_replay.specs.Buffer.{put}
 use Rattle.vhdx_replay.proofs.Bytes.{put-length}
-use Rattle.vhdx_close.specs.Rewrite.{leBytes, rewritten, sealed, closedHeader, Bytes}
-use Rattle.vhdx_close.proofs.Parts.{le-bytes-long, le-of-bytes, le-zeros, part-out, field-out, field-in, starts-same, zeroed-put, crc-lt, bytes-zeros, bytes-number, bytes-put, bytes-zeroed}
+use Rattle.vhdx_rewrite.specs.Rewrite.{leBytes, rewritten, sealed, closedHeader, Bytes}
+use Rattle.vhdx_rewrite.proofs.Parts.{le-bytes-long, le-of-bytes, le-zeros, part-out, field-out, field-in, starts-same, zeroed-put, crc-lt, bytes-zeros, bytes-number, bytes-put, bytes-zeroed}
 
 -- the rules of the log's place, by its offset and length
 abbrev placeRules : ℕ → ℕ → Bool

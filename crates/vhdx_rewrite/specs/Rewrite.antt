@@ -9,6 +9,10 @@ use Rattle.crc32c.specs.Crc.{crc, zeroed}
 use Rattle.vhdx_header.specs.Header.{sequenceNumber}
 use Rattle.vhdx_replay.specs.Buffer.{put}
 
+-- a sequence number's "greatest value", 2^64 - 1: the one that has no next
+abbrev pub greatest : ℕ
+greatest = 18446744073709551615
+
 -- a number as n bytes, lowest first: what `le` of the crate field reads back
 unfoldable pub leBytes : ℕ → ℕ → List ℕ
 leBytes zero x = []
@@ -25,7 +29,7 @@ sealed h = put h 4 (leBytes 4 (crc (zeroed h 4)))
 unfoldable pub closedHeader : List ℕ → List ℕ → List ℕ
 closedHeader h identifier = sealed (rewritten h identifier)
 
--- a list of bytes, and an identifier
+-- a list of bytes
 abbrev pub Bytes : List ℕ → Type 0
 Bytes [] = Unit {0}
 Bytes (b ∷ bs) = (b < 256) × Bytes bs

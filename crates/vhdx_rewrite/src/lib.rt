@@ -1,14 +1,15 @@
-// The header that closing writes.
-use crate::number;
+// The header that closing a log writes, and its write (change request Q-6).
+// Its module: `number`, a number as bytes.
+mod number;
+
 use vhdx_replay::store;
 ghost use mathlib.Core.Path.{_≡_};
 ghost use Prim.Native.Nat.{_+_, _<_};
 ghost use lib.ListN.{length as lengthOf, replicate};
 ghost use Rattle.vhdx_header.specs.Header.{sequenceNumber};
 ghost use Rattle.vhdx_header.specs.Current.{headerAt, firstMiB, otherSlot};
-ghost use Rattle.vhdx_close.specs.Rewrite.{rewritten, closedHeader};
-ghost use Rattle.vhdx_close.specs.Close.{greatest};
-ghost use Rattle.vhdx_close.specs.Deciding.{Closable, headerWritten};
+ghost use Rattle.vhdx_rewrite.specs.Rewrite.{greatest, rewritten, closedHeader};
+ghost use Rattle.vhdx_rewrite.specs.Writing.{Closable, headerWritten};
 
 fn no_identifier() -> [u8; 16]
     ensures { λ r. ⌜ r ≡ replicate 16 0 ⌝ }
@@ -16,7 +17,7 @@ fn no_identifier() -> [u8; 16]
     [0u8; 16]
 }
 
-// The next sequence number, the lent identifier, no log; all else is the current header's.
+// The next sequence number, the given identifier, no log; all else is the current header's.
 fn rewrite(h: &[u8], identifier: &[u8; 16]) -> [u8; 4096]
     requires { ⌜ (lengthOf (now h) ≡ 4096) × (sequenceNumber (now h) < greatest) ⌝ }
     ensures { λ r. ⌜ r ≡ rewritten (now (h .entry)) (now (identifier .entry)) ⌝ }
@@ -33,7 +34,7 @@ fn rewrite(h: &[u8], identifier: &[u8; 16]) -> [u8; 4096]
 }
 
 // With its checksum made anew.
-pub fn closed(h: &[u8], identifier: &[u8; 16]) -> [u8; 4096]
+fn closed(h: &[u8], identifier: &[u8; 16]) -> [u8; 4096]
     requires { ⌜ (lengthOf (now h) ≡ 4096) × (sequenceNumber (now h) < greatest) ⌝ }
     ensures { λ r. ⌜ r ≡ closedHeader (now (h .entry)) (now (identifier .entry)) ⌝ }
     ensures { λ r. ⌜ lengthOf r ≡ 4096 ⌝ }

@@ -1,15 +1,15 @@
--- `vhdx_close::header::closed` meets its contract: the checksum over the rewritten header.
+-- `vhdx_rewrite::closed` meets its contract: the checksum over the rewritten header.
 -- Assumes nothing.
 use mathlib.Core.Path.{ap, _∙_}
 use native.Mathlib.Omega.{arith}
 use lib.ListN.{length}
 use Rattle.vhdx_replay.specs.Buffer.{put}
-use Rattle.vhdx_close.specs.Rewrite.{leBytes, sealed, closedHeader}
+use Rattle.vhdx_rewrite.specs.Rewrite.{leBytes, sealed, closedHeader}
 use Rattle.vhdx_replay.proofs.Bytes.{put-length}
-use Rattle.vhdx_close.proofs.Parts.{le-bytes-long}
+use Rattle.vhdx_rewrite.proofs.Parts.{le-bytes-long}
 use borrow.Author.Needs.{needs}
-use Rattle.vhdx_close.proofs.header.closed.Statement.{statement}
-use Rattle.vhdx_close.proofs.header.closed.Tie as tie
+use Rattle.vhdx_rewrite.proofs.closed.Statement.{statement}
+use Rattle.vhdx_rewrite.proofs.closed.Tie as tie
 
 returns : tie.Need-returns
 unfolding closedHeader sealed

@@ -1,11 +1,11 @@
--- `vhdx_close::header::other_slot` meets its contract.
+-- `vhdx_rewrite::other_slot` meets its contract.
 -- Assumes nothing.
 use mathlib.Core.Path.{sym, ap}
 use mathlib.Core.Bool.{Bool, cond}
 use borrow.Author.Tests.{eq-eqb, ne-eqb}
 use Prim.Native.Nat.{ℕ}
-use Rattle.vhdx_close.proofs.header.other_slot.Statement.{statement}
-use Rattle.vhdx_close.proofs.header.other_slot.Tie as tie
+use Rattle.vhdx_rewrite.proofs.other_slot.Statement.{statement}
+use Rattle.vhdx_rewrite.proofs.other_slot.Tie as tie
 
 returns : tie.Need-returns
 returns c = ap (λ (t : Bool). cond {A = ℕ} t 131072 65536) (sym (eq-eqb _ _ (c .if1 .taken)))

@@ -1,12 +1,12 @@
--- `vhdx_close::header::rewrite` meets its contract: a copy, and three fields over it.
+-- `vhdx_rewrite::rewrite` meets its contract: a copy, and three fields over it.
 -- Assumes nothing.
 use mathlib.Core.Path.{ap, _∙_}
 use native.Mathlib.Omega.{arith}
 use lib.ListN.{length}
-use Rattle.vhdx_close.proofs.Rewriting.{rewritten-long, rewrite-is}
+use Rattle.vhdx_rewrite.proofs.Rewriting.{rewritten-long, rewrite-is}
 use borrow.Author.Needs.{needs}
-use Rattle.vhdx_close.proofs.header.rewrite.Statement.{statement}
-use Rattle.vhdx_close.proofs.header.rewrite.Tie as tie
+use Rattle.vhdx_rewrite.proofs.rewrite.Statement.{statement}
+use Rattle.vhdx_rewrite.proofs.rewrite.Tie as tie
 
 returns : tie.Need-returns
 returns c =

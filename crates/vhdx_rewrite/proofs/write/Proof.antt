@@ -1,10 +1,10 @@
--- `vhdx_close::header::write` meets its contract.
+-- `vhdx_rewrite::write` meets its contract.
 -- Assumes nothing.
 use native.Mathlib.Omega.{arith}
-use Rattle.vhdx_close.proofs.HeaderWrite.{low, fits, other-fits, part-fits, written, wide}
+use Rattle.vhdx_rewrite.proofs.Writing.{low, fits, other-fits, part-fits, written, wide}
 use borrow.Author.Needs.{needs}
-use Rattle.vhdx_close.proofs.header.write.Statement.{statement}
-use Rattle.vhdx_close.proofs.header.write.Tie as tie
+use Rattle.vhdx_rewrite.proofs.write.Statement.{statement}
+use Rattle.vhdx_rewrite.proofs.write.Tie as tie
 use mathlib.Core.Path.{refl}
 
 add-end : tie.Need-add-end

@@ -1,0 +1,4 @@
+pub mod Parts
+pub mod Rewriting
+pub mod Slots
+pub mod Writing
