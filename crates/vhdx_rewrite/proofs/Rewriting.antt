@@ -17,86 +17,80 @@ use Rattle.crc32c.specs.Crc.{crc, zeroed}
 use Rattle.vhdx_header.specs.Header.{checksum, sequenceNumber, logGuid, logVersion, logLength, logOffset, head, validHeader, versionRule, logVersionRule, logLimit, fieldRules, contents}
 use Rattle.vhdx_replay.specs.Buffer.{put}
 use Rattle.vhdx_replay.proofs.Bytes.{put-length}
-use Rattle.vhdx_rewrite.specs.Rewrite.{leBytes, rewritten, sealed, closedHeader, Bytes}
+use Rattle.vhdx_rewrite.specs.Rewrite.{checksumAt, numberAt, fileWriteAt, logAt, leBytes, nextNumber, numbered, named, rewritten, newChecksum, closedHeader, Bytes}
 use Rattle.vhdx_rewrite.proofs.Parts.{le-bytes-long, le-of-bytes, le-zeros, part-out, field-out, field-in, starts-same, zeroed-put, crc-lt, bytes-zeros, bytes-number, bytes-put, bytes-zeroed}
 
 -- the rules of the log's place, by its offset and length
 abbrev placeRules : ℕ → ℕ → Bool
 placeRules o l = wholeMiB o && (wholeMiB l && (leb MiB o && leb l logLimit))
 
-numbered : List ℕ → List ℕ
-numbered h = put h 8 (leBytes 8 (sequenceNumber h + 1))
-
-named : List ℕ → List ℕ → List ℕ
-named h identifier = put (numbered h) 16 identifier
-
 seal : List ℕ → List ℕ
-seal u = leBytes 4 (crc (zeroed u 4))
+seal u = leBytes 4 (newChecksum u)
 
 module _ (h identifier : List ℕ) (long : length h ≡ 4096) (sixteen : length identifier ≡ 16) where
-  fits-1 : 8 + length (leBytes 8 (sequenceNumber h + 1)) ≤ length h
-  fits-1 = omega (arith, le-bytes-long 8 (sequenceNumber h + 1))
+  fits-1 : numberAt + length (leBytes 8 (nextNumber h)) ≤ length h
+  fits-1 = omega (arith, le-bytes-long 8 (nextNumber h))
 
   long-1 : length (numbered h) ≡ 4096
   unfolding numbered
-  long-1 = put-length h 8 (leBytes 8 (sequenceNumber h + 1)) fits-1 ∙ long
+  long-1 = put-length h numberAt (leBytes 8 (nextNumber h)) fits-1 ∙ long
 
-  fits-2 : 16 + length identifier ≤ length (numbered h)
+  fits-2 : fileWriteAt + length identifier ≤ length (numbered h)
   fits-2 = omega (arith, long-1)
 
   long-2 : length (named h identifier) ≡ 4096
   unfolding named
-  long-2 = put-length (numbered h) 16 identifier fits-2 ∙ long-1
+  long-2 = put-length (numbered h) fileWriteAt identifier fits-2 ∙ long-1
 
-  fits-3 : 48 + length {A = ℕ} (replicate 16 0) ≤ length (named h identifier)
+  fits-3 : logAt + length {A = ℕ} (replicate 16 0) ≤ length (named h identifier)
   fits-3 = omega (arith, long-2)
 
   long-3 : length (rewritten h identifier) ≡ 4096
-  unfolding rewritten named numbered
-  long-3 = put-length (named h identifier) 48 (replicate 16 0) fits-3 ∙ long-2
+  unfolding rewritten
+  long-3 = put-length (named h identifier) logAt (replicate 16 0) fits-3 ∙ long-2
 
-  fits-4 : 4 + length (seal (rewritten h identifier)) ≤ length (rewritten h identifier)
+  fits-4 : checksumAt + length (seal (rewritten h identifier)) ≤ length (rewritten h identifier)
   unfolding seal
-  fits-4 = omega (arith, long-3, le-bytes-long 4 (crc (zeroed (rewritten h identifier) 4)))
+  fits-4 = omega (arith, long-3, le-bytes-long 4 (newChecksum (rewritten h identifier)))
 
   four : length (seal (rewritten h identifier)) ≡ 4
   unfolding seal
-  four = le-bytes-long 4 (crc (zeroed (rewritten h identifier) 4))
+  four = le-bytes-long 4 (newChecksum (rewritten h identifier))
 
   pub rewritten-long : length (rewritten h identifier) ≡ 4096
   rewritten-long = long-3
 
   pub closed-long : length (closedHeader h identifier) ≡ 4096
-  unfolding closedHeader sealed seal
-  closed-long = put-length (rewritten h identifier) 4 (seal (rewritten h identifier)) fits-4 ∙ long-3
+  unfolding closedHeader seal
+  closed-long = put-length (rewritten h identifier) checksumAt (seal (rewritten h identifier)) fits-4 ∙ long-3
 
   -- ---- fields, put by put
 
   -- behind the checksum
   past-seal : (a n : ℕ) → 8 ≤ a → a + n ≤ 4096 → field (closedHeader h identifier) a n ≡ field (rewritten h identifier) a n
-  unfolding closedHeader sealed seal
-  past-seal a n b e = field-out (rewritten h identifier) 4 (seal (rewritten h identifier)) fits-4 a n (omega (arith, long-3)) (inr (omega (arith, four)))
+  unfolding closedHeader seal
+  past-seal a n b e = field-out (rewritten h identifier) checksumAt (seal (rewritten h identifier)) fits-4 a n (omega (arith, long-3)) (inr (omega (arith, four)))
 
   past-guid : (a n : ℕ) → a + n ≤ 48 → field (rewritten h identifier) a n ≡ field (named h identifier) a n
   unfolding rewritten named numbered
-  past-guid a n e = field-out (named h identifier) 48 (replicate 16 0) fits-3 a n (omega (arith, long-2)) (inl e)
+  past-guid a n e = field-out (named h identifier) logAt (replicate 16 0) fits-3 a n (omega (arith, long-2)) (inl e)
 
   past-name : (a n : ℕ) → a + n ≤ 16 → field (named h identifier) a n ≡ field (numbered h) a n
   unfolding named
-  past-name a n e = field-out (numbered h) 16 identifier fits-2 a n (omega (arith, long-1)) (inl e)
+  past-name a n e = field-out (numbered h) fileWriteAt identifier fits-2 a n (omega (arith, long-1)) (inl e)
 
   pub closed-number : sequenceNumber h + 1 < 2 ^ 64 → sequenceNumber (closedHeader h identifier) ≡ sequenceNumber h + 1
   unfolding numbered
   closed-number b =
       past-seal 8 8 (omega arith) (omega arith) ∙ past-guid 8 8 (omega arith) ∙ past-name 8 8 (omega arith)
-      ∙ field-in h 8 (leBytes 8 (sequenceNumber h + 1)) fits-1 8 (le-bytes-long 8 (sequenceNumber h + 1))
-      ∙ le-of-bytes 8 (sequenceNumber h + 1) (omega (arith, b))
+      ∙ field-in h numberAt (leBytes 8 (nextNumber h)) fits-1 8 (le-bytes-long 8 (nextNumber h))
+      ∙ le-of-bytes 8 (nextNumber h) (omega (arith, b))
 
   no-guid : field (closedHeader h identifier) 48 16 ≡ 0
   unfolding rewritten named numbered
   no-guid =
       past-seal 48 16 (omega arith) (omega arith)
-      ∙ field-in (named h identifier) 48 (replicate 16 0) fits-3 16 (length-replicate {A = ℕ} 16 0)
+      ∙ field-in (named h identifier) logAt (replicate 16 0) fits-3 16 (length-replicate {A = ℕ} 16 0)
       ∙ le-zeros 16
 
   pub closed-guid : logGuid (closedHeader h identifier) ≡ record { low = 0; high = 0 }
@@ -113,35 +107,35 @@ module _ (h identifier : List ℕ) (long : length h ≡ 4096) (sixteen : length 
   unfolding rewritten named numbered
   closed-rest a n b e =
       past-seal a n (omega arith) e
-      ∙ field-out (named h identifier) 48 (replicate 16 0) fits-3 a n (omega (arith, long-2)) (inr (omega (arith, b)))
-      ∙ field-out (numbered h) 16 identifier fits-2 a n (omega (arith, long-1)) (inr (omega arith))
-      ∙ field-out h 8 (leBytes 8 (sequenceNumber h + 1)) fits-1 a n (omega arith) (inr (omega (arith, le-bytes-long 8 (sequenceNumber h + 1))))
+      ∙ field-out (named h identifier) logAt (replicate 16 0) fits-3 a n (omega (arith, long-2)) (inr (omega (arith, b)))
+      ∙ field-out (numbered h) fileWriteAt identifier fits-2 a n (omega (arith, long-1)) (inr (omega arith))
+      ∙ field-out h numberAt (leBytes 8 (nextNumber h)) fits-1 a n (omega arith) (inr (omega (arith, le-bytes-long 8 (nextNumber h))))
 
   -- ---- valid
 
   begins : take 4 (closedHeader h identifier) ≡ take 4 h
-  unfolding closedHeader sealed seal rewritten named numbered
+  unfolding closedHeader seal rewritten named numbered
   begins =
-      part-out (rewritten h identifier) 4 (seal (rewritten h identifier)) fits-4 0 4 (omega (arith, long-3)) (inl (omega arith))
-      ∙ part-out (named h identifier) 48 (replicate 16 0) fits-3 0 4 (omega (arith, long-2)) (inl (omega arith))
-      ∙ part-out (numbered h) 16 identifier fits-2 0 4 (omega (arith, long-1)) (inl (omega arith))
-      ∙ part-out h 8 (leBytes 8 (sequenceNumber h + 1)) fits-1 0 4 (omega arith) (inl (omega arith))
+      part-out (rewritten h identifier) checksumAt (seal (rewritten h identifier)) fits-4 0 4 (omega (arith, long-3)) (inl (omega arith))
+      ∙ part-out (named h identifier) logAt (replicate 16 0) fits-3 0 4 (omega (arith, long-2)) (inl (omega arith))
+      ∙ part-out (numbered h) fileWriteAt identifier fits-2 0 4 (omega (arith, long-1)) (inl (omega arith))
+      ∙ part-out h numberAt (leBytes 8 (nextNumber h)) fits-1 0 4 (omega arith) (inl (omega arith))
 
   module _ (bytes : Bytes h) (named-bytes : Bytes identifier) where
     rewritten-bytes : Bytes (rewritten h identifier)
     unfolding rewritten named numbered
     rewritten-bytes =
-        bytes-put (named h identifier) 48 (replicate 16 0)
-        (bytes-put (numbered h) 16 identifier (bytes-put h 8 (leBytes 8 (sequenceNumber h + 1)) bytes (bytes-number 8 (sequenceNumber h + 1))) named-bytes)
+        bytes-put (named h identifier) logAt (replicate 16 0)
+        (bytes-put (numbered h) fileWriteAt identifier (bytes-put h numberAt (leBytes 8 (nextNumber h)) bytes (bytes-number 8 (nextNumber h))) named-bytes)
         (bytes-zeros 16)
 
     agrees : checksum (closedHeader h identifier) ≡ crc (zeroed (closedHeader h identifier) 4)
-    unfolding closedHeader sealed seal
+    unfolding closedHeader seal
     agrees =
         let u = rewritten h identifier in
-        field-in u 4 (leBytes 4 (crc (zeroed u 4))) fits-4 4 four
-        ∙ le-of-bytes 4 (crc (zeroed u 4)) (omega (arith, crc-lt (zeroed u 4) (bytes-zeroed u rewritten-bytes)))
-        ∙ ap crc (sym (zeroed-put u (leBytes 4 (crc (zeroed u 4))) four (omega (arith, long-3))))
+        field-in u checksumAt (leBytes 4 (newChecksum u)) fits-4 4 four
+        ∙ le-of-bytes 4 (newChecksum u) (omega (arith, crc-lt (zeroed u 4) (bytes-zeroed u rewritten-bytes)))
+        ∙ ap crc (sym (zeroed-put u (leBytes 4 (newChecksum u)) four (omega (arith, long-3))))
 
     pub closed-valid : validHeader h ≡ true → validHeader (closedHeader h identifier) ≡ true
     unfolding validHeader
@@ -150,7 +144,7 @@ module _ (h identifier : List ℕ) (long : length h ≡ 4096) (sixteen : length 
         and-eq-true-iff (starts (closedHeader h identifier) head) (eqb (checksum (closedHeader h identifier)) (crc (zeroed (closedHeader h identifier) 4))) .1
         (starts-same h (closedHeader h identifier) head begins ∙ p .0, eq-eqb _ _ agrees)
 
-  -- ---- its rules, and what is read of it
+  -- ---- its rules
 
   pub closed-rules : fieldRules h ≡ true → fieldRules (closedHeader h identifier) ≡ true
   unfolding fieldRules
@@ -166,11 +160,6 @@ module _ (h identifier : List ℕ) (long : length h ≡ 4096) (sixteen : length 
         ),
       )
 
-  pub closed-contents : sequenceNumber h + 1 < 2 ^ 64 → (at : ℕ)
-      → contents at (closedHeader h identifier) ≡ record { slot = at; «sequence_number» = sequenceNumber h + 1; «log_guid» = record { low = 0; high = 0 }; «log_offset» = logOffset h; «log_length» = logLength h }
-  closed-contents b at =
-      simp (closed-number b, closed-guid, closed-rest 72 8 (omega arith) (omega arith), closed-rest 68 4 (omega arith) (omega arith))
-
 -- ---- as the code puts it together
 
 put-whole : (z h : List ℕ) → length z ≡ length h → put z 0 h ≡ h
@@ -180,7 +169,7 @@ put-whole z h e = ap (λ (x : List ℕ). h ++ x) (drop-of-length-le z {i = 0 + l
 module _ (z h identifier : List ℕ) (p : length z ≡ 4096) (q : length h ≡ 4096) where
   pub rewrite-is : (a b c d next none : List ℕ) (n : ℕ) → a ≡ put z 0 h → n ≡ sequenceNumber h → next ≡ leBytes 8 (n + 1) → b ≡ put a 8 next
       → c ≡ put b 16 identifier → none ≡ replicate 16 0 → d ≡ put c 48 none → d ≡ rewritten h identifier
-  unfolding rewritten
+  unfolding rewritten named numbered
   rewrite-is a b c d next none n ea en enext eb ec enone ed =
       let first : a ≡ h = ea ∙ put-whole z h (omega arith) in
       let number : next ≡ leBytes 8 (sequenceNumber h + 1) = enext ∙ ap (λ (x : ℕ). leBytes 8 (x + 1)) en in

@@ -18,16 +18,40 @@ unfoldable pub leBytes : ℕ → ℕ → List ℕ
 leBytes zero x = []
 leBytes (suc n) x = x % 256 ∷ leBytes n (x / 256)
 
--- sequence number at 8, file-write identifier at 16, log identifier at 48 (MS-VHDX 2.2.2)
-unfoldable pub rewritten : List ℕ → List ℕ → List ℕ
-rewritten h identifier = put (put (put h 8 (leBytes 8 (sequenceNumber h + 1))) 16 identifier) 48 (replicate 16 0)
+-- where a header has these fields (MS-VHDX 2.2.2)
+abbrev pub checksumAt : ℕ
+checksumAt = 4
 
--- the checksum at 4, over the header with these four bytes taken as zero
-unfoldable pub sealed : List ℕ → List ℕ
-sealed h = put h 4 (leBytes 4 (crc (zeroed h 4)))
+abbrev pub numberAt : ℕ
+numberAt = 8
+
+abbrev pub fileWriteAt : ℕ
+fileWriteAt = 16
+
+abbrev pub logAt : ℕ
+logAt = 48
+
+-- "sequence number plus one"
+abbrev pub nextNumber : List ℕ → ℕ
+nextNumber h = sequenceNumber h + 1
+
+unfoldable pub numbered : List ℕ → List ℕ
+numbered h = put h numberAt (leBytes 8 (nextNumber h))
+
+-- with the caller's file-write identifier
+unfoldable pub named : List ℕ → List ℕ → List ℕ
+named h identifier = put (numbered h) fileWriteAt identifier
+
+-- "log identifier zero .. all else copied"
+unfoldable pub rewritten : List ℕ → List ℕ → List ℕ
+rewritten h identifier = put (named h identifier) logAt (replicate 16 0)
+
+-- "The checksum is made anew": over the header with its four bytes taken as zero
+abbrev pub newChecksum : List ℕ → ℕ
+newChecksum h = crc (zeroed h checksumAt)
 
 unfoldable pub closedHeader : List ℕ → List ℕ → List ℕ
-closedHeader h identifier = sealed (rewritten h identifier)
+closedHeader h identifier = put (rewritten h identifier) checksumAt (leBytes 4 (newChecksum (rewritten h identifier)))
 
 -- a list of bytes
 abbrev pub Bytes : List ℕ → Type 0
