@@ -1,9 +1,9 @@
 -- The plan of closing is made again from every file that an unfinished close leaves; and once the header is written, closing has
 -- nothing to do.
 -- Assumes nothing.
-use mathlib.Core.Path.{_≡_, sym, ap, ap₂, subst, _∙_}
-use mathlib.Core.Bool.{Bool, true, cond}
-use mathlib.Core.List.{List, [], _∷_, _++_}
+use mathlib.Core.Path.{_≡_, sym, ap, subst, _∙_}
+use mathlib.Core.Bool.{true}
+use mathlib.Core.List.{List, []}
 use mathlib.Core.Logic.{_⊎_, inl, inr, ⊎-elim}
 use Prim.Native.Nat.{ℕ, _+_, _^_, _≤_, _<_}
 use native.Mathlib.Omega.{arith}
@@ -11,7 +11,6 @@ use lib.Dec.{eqb, ltb}
 use lib.ListN.{length, take, drop, getD}
 use lib.Seq.{take-take}
 use borrow.Author.Tests.{ltb-true, eq-eqb, le-leb}
-use Rattle.decision.specs.Refusal.{check}
 use Rattle.field.specs.Fields.{number, starts}
 use Rattle.extent.specs.Extent.{MiB}
 use Rattle.vhdx_header.specs.declared.Header.{Header}
@@ -22,7 +21,7 @@ use Rattle.vhdx_header.specs.Current.{vhdxfile, headerAt, firstMiB, currentHead
 use Rattle.vhdx_header.proofs.Laws.{accepted}
 use Rattle.vhdx_header.proofs.Standing.{Slots, Standing, standing, current-by}
 use Rattle.vhdx_walk.specs.Entries.{Sector, lengthLimit}
-use Rattle.vhdx_log.specs.Work.{Plan, refused, apply, applyWithin}
+use Rattle.vhdx_log.specs.Work.{apply, applyWithin}
 use Rattle.vhdx_log.specs.Plan.{logBytes, extentOf, planLog, planHeader, plan}
 use Rattle.vhdx_log.proofs.Again.{plan-again-by}
 use Rattle.vhdx_replay.specs.Steps.{File}
@@ -32,7 +31,7 @@ use Rattle.vhdx_replay.proofs.Reading.{applied, same-part}
 use Rattle.vhdx_replay.proofs.Sectors.{Kept}
 use Rattle.vhdx_rewrite.specs.Rewrite.{closedHeader, Bytes}
 use Rattle.vhdx_rewrite.specs.Rewrite.{greatest}
-use Rattle.vhdx_close.specs.Close.{slotIn, headerSector, withHeader, closing, closePlan}
+use Rattle.vhdx_close.specs.Close.{slotIn, closePlan}
 use Rattle.vhdx_close.specs.Safety.{HasNoLog}
 use Rattle.vhdx_rewrite.proofs.Parts.{starts-same, bytes-take, bytes-drop}
 use Rattle.vhdx_rewrite.proofs.Slots.{slots-low, slots-apart, slots-back, slots-turned, slot-part, slot-same}
@@ -124,10 +123,7 @@ module _ (identifier : List ℕ) (o : File) (h : Header) (k : currentHeader (o .
 
       pub close-again : closePlan identifier f ≡ closePlan identifier o
       unfolding closePlan
-      close-again =
-          ap₂ (λ (x : Answer) (p : Plan). closing x identifier f p) still-current plan-still
-          ∙ ap (λ (x : List ℕ). withHeader h (record { offset = otherSlot (h .slot); bytes = closedHeader x identifier }) (apply m ss)) current-kept
-          ∙ ap₂ (λ (x : Answer) (p : Plan). closing x identifier o p) (sym k) (sym e)
+      close-again = rw (still-current, plan-still, k, e, current-kept)
 
     -- ---- the header is written
     module _ (sixteen : length identifier ≡ 16) (named-bytes : Bytes identifier) (bytes : Bytes (o .buffer)) (raisable : ltb (h .«sequence_number») greatest ≡ true)
@@ -207,6 +203,4 @@ module _ (identifier : List ℕ) (o : File) (h : Header) (k : currentHeader (o .
       -- closing has nothing more to do
       pub close-done : closePlan identifier f ≡ apply m []
       unfolding closePlan
-      close-done =
-          ap₂ (λ (x : Answer) (p : Plan). closing x identifier f p) new-current plan-new
-          ∙ ap (λ (t : Bool). cond t (apply m []) (check (ltb (now-current .«sequence_number») greatest) (refused 23) (apply m ([] ++ (headerSector identifier f now-current ∷ []))))) no-log
+      close-done = rw (new-current, plan-new, no-log)

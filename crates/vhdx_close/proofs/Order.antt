@@ -1,8 +1,8 @@
 -- A log that is closed by calls that may be cut: either the header is not yet written, and the steps below the next one in order are
 -- done (`Open`); or it is, and the file is what an undisturbed close leaves (`Closed`).
 -- Assumes nothing.
-use mathlib.Core.Path.{_≡_, refl, sym, ap, ap₂, subst, _∙_}
-use mathlib.Core.Bool.{Bool, true, false, cond}
+use mathlib.Core.Path.{_≡_, refl, sym, ap, subst, _∙_}
+use mathlib.Core.Bool.{Bool, true, false}
 use mathlib.Core.List.{List, [], _∷_, _++_, map}
 use mathlib.Core.Logic.{_⊎_, inl, inr, ⊎-elim}
 use mathlib.Core.Option.{Option, some}
@@ -23,7 +23,7 @@ use Rattle.vhdx_header.specs.Header.{validHeader}
 use Rattle.vhdx_header.specs.Current.{currentHeader, otherSlot}
 use Rattle.vhdx_header.proofs.Laws.{accepted}
 use Rattle.vhdx_walk.specs.Entries.{Sector}
-use Rattle.vhdx_log.specs.Work.{Plan, refused as unplanned, apply}
+use Rattle.vhdx_log.specs.Work.{Plan, apply}
 use Rattle.vhdx_log.specs.Plan.{extentOf}
 use Rattle.vhdx_replay.specs.Steps.{File, end, In, Named, Step, grow, write, run, runs, TornWrite, TornGrowth, Torn, Ran, stop, torn, next, steps, admitted, stepsOf, chosen, single}
 use Rattle.vhdx_replay.specs.Buffer.{put}
@@ -35,7 +35,7 @@ use Rattle.vhdx_replay.proofs.Reading.{reads}
 use Rattle.vhdx_replay.proofs.Sectors.{Kept, clash}
 use Rattle.vhdx_rewrite.specs.Rewrite.{closedHeader, Bytes}
 use Rattle.vhdx_rewrite.specs.Rewrite.{greatest}
-use Rattle.vhdx_close.specs.Close.{slotIn, headerSector, closing, closePlan, afterClose, afterCloseStep}
+use Rattle.vhdx_close.specs.Close.{slotIn, headerSector, closePlan, afterClose, afterCloseStep}
 use Rattle.vhdx_close.specs.Calls.{WholeBy, WholeIfValid, Calls, none, close, step, refuse, interrupted-close, interrupted-step}
 use Rattle.vhdx_close.specs.Safety.{HasNoLog}
 use Rattle.vhdx_rewrite.proofs.Parts.{part-in}
@@ -124,7 +124,7 @@ module _ (identifier : List ℕ) (sixteen : length identifier ≡ 16) (o : File)
   c-long = closed-long (slotIn o (h .slot)) identifier (long identifier o h k e) sixteen
 
   c-ends : end c ≤ MiB
-  c-ends = omega (arith, c-long, slots-low (slots-of identifier o h k e) .3)
+  c-ends = let low = slots-low (slots-of identifier o h k e) in omega (arith, c-long, low .1, low .3)
 
   pub ends : EndBy m (ss ++ (headerSector identifier o h ∷ []))
   ends = all-append (λ (s : Sector). end s ≤ m) ss (c ∷ []) (R .ends) (omega (arith, c-ends, large, R .grows), tt)
@@ -321,9 +321,7 @@ module _ (identifier : List ℕ) (sixteen : length identifier ≡ 16) (o : File)
   module _ (log : eqb (number (h .«log_guid»)) 0 ≡ false) (raisable : ltb (h .«sequence_number») greatest ≡ true) where
     pub plan-is : closePlan identifier o ≡ apply m ts
     unfolding closePlan
-    plan-is =
-        ap₂ (λ (x : Answer) (p : Plan). closing x identifier o p) k e
-        ∙ ap₂ (λ (s t : Bool). cond s (apply m ss) (check t (unplanned 23) (apply m ts))) log raisable
+    plan-is = rw (k, e, log, raisable)
 
     open-current : (n : ℕ) (f : File) → Open n f → currentHeader (f .buffer) (f .size) ≡ Current h
     unfolding Dormant other

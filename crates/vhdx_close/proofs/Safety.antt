@@ -1,7 +1,7 @@
 -- Demand 3 for closing, proved: by whether the original's log identifier is zero, its sequence number is at its greatest value, or
 -- there is a log to close.
 -- Assumes nothing.
-use mathlib.Core.Path.{_≡_, refl, sym, ap, ap₂, subst, _∙_}
+use mathlib.Core.Path.{_≡_, refl, sym, ap, subst, _∙_}
 use mathlib.Core.Bool.{Bool, true, false, cond, _&&_}
 use mathlib.Core.List.{List, [], _∷_, _++_}
 use mathlib.Core.Logic.{inl, inr}
@@ -10,7 +10,6 @@ use native.Mathlib.Omega.{arith}
 use lib.Dec.{eqb, leb, ltb}
 use lib.ListN.{length, take, getD}
 use borrow.Author.Tests.{eqb-true}
-use Rattle.decision.specs.Refusal.{check}
 use Rattle.field.specs.Fields.{number}
 use Rattle.extent.specs.declared.Extent.{Extent}
 use Rattle.extent.specs.Extent.{part}
@@ -99,9 +98,7 @@ module _ (identifier : List ℕ) (o : File) (h : Header) (k : currentHeader (o .
   module _ (log : eqb (number (h .«log_guid»)) 0 ≡ true) where
     no-log-plan : closePlan identifier o ≡ apply m ss
     unfolding closePlan
-    no-log-plan =
-        ap₂ (λ (x : Answer) (p : Plan). closing x identifier o p) k e
-        ∙ ap (λ (t : Bool). cond t (apply m ss) (check (ltb (h .«sequence_number») greatest) (unplanned 23) (apply m (ss ++ (headerSector identifier o h ∷ []))))) log
+    no-log-plan = rw (k, e, log)
 
     same-slot : (f : File) → Inv o m ss f → slotIn f (otherSlot (h .slot)) ≡ slotIn o (otherSlot (h .slot))
     same-slot f v =
@@ -149,9 +146,7 @@ module _ (identifier : List ℕ) (o : File) (h : Header) (k : currentHeader (o .
   module _ (log : eqb (number (h .«log_guid»)) 0 ≡ false) (top : ltb (h .«sequence_number») greatest ≡ false) where
     refused-plan : closePlan identifier o ≡ unplanned 23
     unfolding closePlan
-    refused-plan =
-        ap₂ (λ (x : Answer) (p : Plan). closing x identifier o p) k e
-        ∙ ap₂ (λ (s t : Bool). cond s (apply m ss) (check t (unplanned 23) (apply m (ss ++ (headerSector identifier o h ∷ []))))) log top
+    refused-plan = rw (k, e, log, top)
 
     stays : {n : ℕ} {f g : File} → f ≡ o → Calls identifier n f g → g ≡ o
     unfolding afterClose afterCloseStep

@@ -14,7 +14,7 @@ use Rattle.field.specs.Fields.{field, number, starts}
 use Rattle.field.proofs.Laws.{field-add}
 use Rattle.extent.specs.Extent.{MiB, wholeMiB}
 use Rattle.crc32c.specs.Crc.{crc, zeroed}
-use Rattle.vhdx_header.specs.Header.{checksum, sequenceNumber, logGuid, logVersion, logLength, logOffset, head, validHeader, versionRule, logVersionRule, logLimit, fieldRules, contents}
+use Rattle.vhdx_header.specs.Header.{checksum, sequenceNumber, logGuid, logVersion, logLength, logOffset, head, validHeader, versionRule, logVersionRule, logLimit, fieldRules}
 use Rattle.vhdx_replay.specs.Buffer.{put}
 use Rattle.vhdx_replay.proofs.Bytes.{put-length}
 use Rattle.vhdx_rewrite.specs.Rewrite.{checksumAt, numberAt, fileWriteAt, logAt, leBytes, nextNumber, numbered, named, rewritten, newChecksum, closedHeader, Bytes}
