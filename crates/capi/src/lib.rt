@@ -108,10 +108,10 @@ pub extern "C" fn shrunvaki_vhdx_close_step(
     ensures { λ r. ⌜ now (buffer .exit) ≡ afterCloseStep (now (identifier .entry)) k (file (now (buffer .entry)) length) .buffer ⌝ }
     ensures { λ r. ⌜ now (answer .exit) ≡ steppedIn (closeStepAnswer (now (identifier .entry)) k (file (now (buffer .entry)) length)) (now (answer .entry)) ⌝ }
 {
-    let stepped = vhdx::close_step(buffer, length, identifier, k);
-    answer[0] = stepped.refusal;
-    answer[1] = stepped.length;
-    stepped.refusal
+    let done = vhdx::close_step(buffer, length, identifier, k);
+    answer[0] = done.refusal;
+    answer[1] = done.length;
+    done.refusal
 }
 
 // The refusal's number or 0. The answer: 0 refused, 1 in the file, 2 zero, 3 in the parent; the number, the offset in the
