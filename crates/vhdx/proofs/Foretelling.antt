@@ -31,7 +31,7 @@ use Rattle.vhdx.specs.declared.Planned.{Planned}
 use Rattle.vhdx.specs.Attach.{imageOf, afterAttach, read, answerBy, attachAnswer}
 use Rattle.vhdx.specs.Plan.{plannedBy, planAnswer, foretold, AsPlanned, Foretells}
 use Rattle.vhdx.specs.Refusals.{Row, firstOf, rows, firstRow, refusalOfPlan}
-use Rattle.vhdx.proofs.Attaching.{written-size}
+use Rattle.vhdx_replay.proofs.Done.{written-size}
 use Rattle.vhdx.proofs.Refusals.{by-the-table}
 
 -- ---- what plan answers

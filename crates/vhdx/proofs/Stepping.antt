@@ -1,24 +1,22 @@
 -- A single step, from what its parts promise: a refusal, growth, or a sector.
 -- Assumes nothing.
-use mathlib.Core.Path.{_≡_, refl, sym, ap, _∙_}
-use mathlib.Core.Bool.{Bool, true, false}
-use mathlib.Core.List.{List, [], _∷_, map}
-use Prim.Native.Nat.{ℕ, zero, suc, _+_, _-_, _<_}
+use mathlib.Core.Path.{_≡_, sym, ap, _∙_}
+use mathlib.Core.List.{List}
+use Prim.Native.Nat.{ℕ, _+_, _-_, _<_}
 use native.Mathlib.Numerals.{add-one}
 use native.Mathlib.Omega.{arith}
-use lib.Dec.{leb}
-use lib.ListN.{take, getElem?}
-use Rattle.decision.specs.Refusal.{refused, answered, check, refusalOf}
+use lib.ListN.{take}
+use Rattle.decision.specs.Refusal.{refusalOf}
 use Rattle.extent.specs.declared.Extent.{Extent}
-use Rattle.vhdx_walk.specs.Entries.{Sector}
 use Rattle.vhdx_log.specs.declared.Work.{Work}
 use Rattle.vhdx_log.specs.Work.{Plan, refused as unplanned, apply}
 use Rattle.vhdx_log.specs.Plan.{plan}
-use Rattle.vhdx_replay.specs.Steps.{File, write, end, runs, steps, admitted, chosen, stepsOf, single}
+use Rattle.vhdx_replay.specs.Steps.{File, runs, steps, chosen, single}
 use Rattle.vhdx_replay.specs.Calls.{file}
 use Rattle.vhdx_replay.specs.Planned.{Planned}
-use Rattle.vhdx_replay.proofs.Applying.{planned, plan-is}
 use Rattle.vhdx_replay.specs.declared.Stepped.{Stepped}
+use Rattle.vhdx_replay.proofs.Applying.{planned, plan-is}
+use Rattle.vhdx_replay.proofs.Done.{admitted-size}
 use Rattle.vhdx.specs.Step.{afterStep, stepAnswer}
 
 -- what a step on a file with this plan says and leaves
@@ -51,16 +49,6 @@ module _ (b : List ℕ) (n k : ℕ) where
           e ∙ ap (λ (x : Plan). runs (take 1 (steps x)) (file b n) .buffer) (sym grow-chosen)
           ∙ ap (λ (x : Plan). runs (single x 0 n) (file b n) .buffer) grow-chosen
           ∙ ap (λ (j : ℕ). runs (single (plan b n) j n) (file b n) .buffer) (sym z)
-
-    -- a sector leaves the length
-    admitted-size : (f : File) (size : ℕ) (ss : List Sector) (i : ℕ) → runs (stepsOf (admitted size (getElem? (map write ss) i))) f .size ≡ f .size
-    admitted-size f size [] i = refl
-    admitted-size f size (s ∷ ss) zero = go (leb (end s) size)
-      where
-        go : (t : Bool) → runs (stepsOf (check t (refused 22) (answered (write s)))) f .size ≡ f .size
-        go true = refl
-        go false = refl
-    admitted-size f size (s ∷ ss) (suc i) = admitted-size f size ss i
 
     module _ (h : 0 < k) where
       from-one : k - 1 + 1 ≡ k

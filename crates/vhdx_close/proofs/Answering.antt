@@ -1,18 +1,15 @@
 -- What closing and a single step of it answer, from what their parts promise.
 -- Assumes nothing.
-use mathlib.Core.Path.{_≡_, refl, sym, ap, ap₂, subst, _∙_}
+use mathlib.Core.Path.{_≡_, refl, sym, ap, ap₂, _∙_}
 use mathlib.Core.Bool.{Bool, true, false}
 use mathlib.Core.List.{List, [], _∷_, _++_, map}
 use mathlib.Core.Option.{none, some}
-use mathlib.Core.Logic.{_⊎_, inl, inr, ⊎-elim}
 use Prim.Native.Nat.{ℕ, zero, suc, _+_, _-_, _≤_, _<_}
 use native.Mathlib.Numerals.{add-one}
 use native.Mathlib.Omega.{arith}
-use lib.Dec.{leb}
 use lib.ListN.{length, take, getElem?, length-append}
 use borrow.Author.Tests.{le-leb}
 use Rattle.decision.specs.Refusal.{Outcome, refused as declined, answered, check, refusalOf}
-use Rattle.vhdx_header.specs.Header.{sequenceNumber}
 use Rattle.vhdx_header.specs.Current.{headerAt, firstMiB, otherSlot}
 use Rattle.vhdx_header.proofs.Laws.{accepted}
 use Rattle.vhdx_header.proofs.Standing.{standing}
@@ -20,24 +17,20 @@ use Rattle.vhdx_walk.specs.Entries.{Sector}
 use Rattle.vhdx_log.specs.Work.{Plan, refused, apply, count}
 use Rattle.vhdx_log.specs.Plan.{plan}
 use Rattle.vhdx_replay.specs.Buffer.{put}
-use Rattle.vhdx_replay.specs.Steps.{File, Step, grow, write, run, runs, end, steps, admitted, chosen, stepsOf, single}
+use Rattle.vhdx_replay.specs.Steps.{Step, grow, write, run, runs, end, steps, admitted, chosen, stepsOf, single}
 use Rattle.vhdx_replay.specs.Calls.{file}
 use Rattle.vhdx_close.specs.declared.Closed.{Closed}
 use Rattle.vhdx_replay.specs.declared.Stepped.{Stepped}
 use Rattle.vhdx_close.specs.declared.Job.{Job}
 use Rattle.vhdx_rewrite.specs.Rewrite.{closedHeader}
-use Rattle.vhdx_rewrite.specs.Rewrite.{greatest}
 use Rattle.vhdx_close.specs.Close.{closePlan, afterClose, afterCloseStep, closedBy, closeAnswer, closeStepAnswer}
-use Rattle.vhdx_rewrite.specs.Writing.{Closable, headerWritten}
+use Rattle.vhdx_rewrite.specs.Writing.{headerWritten}
 use Rattle.vhdx_close.specs.Deciding.{Doable}
+use Rattle.vhdx_replay.proofs.Done.{written-size, admitted-size}
 use Rattle.vhdx_rewrite.proofs.Slots.{slots-low}
-use Rattle.vhdx_close.proofs.Doing.{ss, c, log-plan, plain-plan, header-plan, below}
+use Rattle.vhdx_close.proofs.Doing.{ss, c, log-plan, plain-plan, header-plan}
 
 -- ---- lists of sectors
-
-pub written-size : (us : List Sector) (f : File) → runs (map write us) f .size ≡ f .size
-written-size [] f = refl
-written-size (s ∷ us) f = written-size us (record { buffer = put (f .buffer) (s .offset) (s .bytes); size = f .size })
 
 nth-left : (us : List Sector) (x : Sector) (i : ℕ) → i < length us → getElem? (map write (us ++ (x ∷ []))) i ≡ getElem? (map write us) i
 nth-left [] x i h = absurd (omega arith)
@@ -54,15 +47,6 @@ nth-none : (us : List Sector) (i : ℕ) → length us ≤ i → getElem? (map wr
 nth-none [] i h = refl
 nth-none (u ∷ us) zero h = absurd (omega arith)
 nth-none (u ∷ us) (suc i) h = nth-none us i (omega arith)
-
-sector-size : (f : File) (size : ℕ) (us : List Sector) (i : ℕ) → runs (stepsOf (admitted size (getElem? (map write us) i))) f .size ≡ f .size
-sector-size f size [] i = refl
-sector-size f size (s ∷ us) zero = go (leb (end s) size)
-  where
-    go : (t : Bool) → runs (stepsOf (check t (declined 22) (answered (write s)))) f .size ≡ f .size
-    go true = refl
-    go false = refl
-sector-size f size (s ∷ us) (suc i) = sector-size f size us i
 
 -- ---- a refusal
 
@@ -168,14 +152,6 @@ module _ (identifier b : List ℕ) (n : ℕ) (job : Job) (d : Doable b n job) wh
 
     -- the header
     module _ (r : job .rewrite ≡ true) where
-      pub closable-now : Closable b (job .slot)
-      closable-now =
-          record {
-            large = omega (arith, accepted b n (d .current) .holds-first, accepted b n (d .current) .fits);
-            placed = ⊎-elim (λ x. inl (d .slot-is ∙ x .0)) (λ x. inr (d .slot-is ∙ x .0)) (standing b n (d .current) .slots);
-            below = subst (λ (s : ℕ). sequenceNumber (headerAt (firstMiB b) s) < greatest) (sym (d .slot-is)) (below identifier b n job d r);
-          }
-
       module _ (wide : length (closedHeader (headerAt (firstMiB b) (job .slot)) identifier) ≡ 4096) (z : i ≡ job .work .count) where
         fits : end (c identifier b n job d) ≤ n
         unfolding c
@@ -211,7 +187,7 @@ module _ (identifier b : List ℕ) (n : ℕ) (job : Job) (d : Doable b n job) wh
 
     size-kept : afterCloseStep identifier (k - 1 + 1) (file b n) .size ≡ n
     unfolding afterCloseStep
-    size-kept = ap (λ (x : Outcome Step). runs (stepsOf x) (file b n) .size) (by-nth (k - 1) (plan-some .0) (plan-some .1)) ∙ sector-size (file b n) n (plan-some .0) (k - 1)
+    size-kept = ap (λ (x : Outcome Step). runs (stepsOf x) (file b n) .size) (by-nth (k - 1) (plan-some .0) (plan-some .1)) ∙ admitted-size (file b n) n (plan-some .0) (k - 1)
 
     pub later-step : (r : ℕ) (g : List ℕ) → r ≡ refusalOf (chosen (closePlan identifier (file b n)) (k - 1 + 1) n) → g ≡ afterCloseStep identifier (k - 1 + 1) (file b n) .buffer
         → (_≡_ {A = Stepped} (record { refusal = r; length = n }) (closeStepAnswer identifier k (file b n))) × (g ≡ afterCloseStep identifier k (file b n) .buffer)

@@ -4,15 +4,13 @@ use mathlib.Core.Path.{_≡_, refl, sym, ap, ap₂, subst, _∙_}
 use mathlib.Core.Bool.{Bool, true, false, cond}
 use mathlib.Core.List.{List, [], _∷_, _++_}
 use mathlib.Core.Logic.{_⊎_, inl, inr, ⊎-elim}
-use Prim.Native.Nat.{ℕ, _+_, _≤_, _<_}
+use Prim.Native.Nat.{ℕ, _+_, _<_}
 use native.Mathlib.Omega.{arith}
 use lib.Dec.{eqb, ltb}
-use lib.ListN.{length, take, getD}
+use lib.ListN.{length, take}
 use borrow.Author.Tests.{ltb-true}
 use Rattle.decision.specs.Refusal.{check}
 use Rattle.field.specs.Fields.{number}
-use Rattle.extent.specs.declared.Extent.{Extent}
-use Rattle.extent.specs.Extent.{MiB}
 use Rattle.vhdx_header.specs.Header.{sequenceNumber}
 use Rattle.vhdx_header.specs.declared.Header.{Header}
 use Rattle.vhdx_header.specs.declared.Answer.{Answer as HeaderAnswer}
@@ -21,28 +19,21 @@ use Rattle.vhdx_header.specs.Current.{headerAt, firstMiB, currentHeader, otherS
 use Rattle.vhdx_header.proofs.Laws.{accepted}
 use Rattle.vhdx_header.proofs.Standing.{standing}
 use Rattle.vhdx_walk.specs.Entries.{Sector}
-use Rattle.vhdx_log.specs.declared.Work.{Work}
-use Rattle.vhdx_log.specs.declared.Answer.{Answer}
-use Rattle.vhdx_log.specs.declared.Answer.the-variants.{Refused as LogRefused, Apply}
 use Rattle.vhdx_log.specs.Work.{Plan, refused, apply, count}
 use Rattle.vhdx_log.specs.Plan.{plan, planHeader}
-use Rattle.vhdx_log.specs.Answers.{logOf, planIn, countOf, ReadyIn, planOf as planBy}
 use Rattle.vhdx_replay.specs.Buffer.{put}
-use Rattle.vhdx_replay.specs.Steps.{File, Step, grow, run, runs, steps}
+use Rattle.vhdx_replay.specs.Steps.{File, grow, run, runs, steps}
 use Rattle.vhdx_replay.specs.Calls.{file}
-use Rattle.vhdx_replay.specs.Planned.{logExtent, Planned}
-use Rattle.vhdx_replay.proofs.Applying.{planned, header, here, plan-is, all-steps}
-use Rattle.vhdx_replay.proofs.Reading.{same-first, reads}
-use Rattle.vhdx_replay.proofs.Restart.{Inv, ran, whole, good, first, untouched}
+use Rattle.vhdx_replay.proofs.Applying.{planned, header, plan-is}
+use Rattle.vhdx_replay.proofs.Done.{done, same-buffer, long, same-start}
 use Rattle.vhdx_close.specs.declared.Job.{Job}
 use Rattle.vhdx_close.specs.declared.Ending.{Ending}
 use Rattle.vhdx_close.specs.declared.Ending.the-variants.{Nothing, TooGreat, Rewrite}
-use Rattle.vhdx_rewrite.specs.Rewrite.{closedHeader}
-use Rattle.vhdx_close.proofs.Order.{runs-snoc}
-use Rattle.vhdx_rewrite.specs.Rewrite.{greatest}
+use Rattle.vhdx_rewrite.specs.Rewrite.{greatest, closedHeader}
 use Rattle.vhdx_close.specs.Close.{slotIn, headerSector, withHeader, closing, closePlan, afterClose}
 use Rattle.vhdx_rewrite.specs.Writing.{Closable, headerWritten}
 use Rattle.vhdx_close.specs.Deciding.{endingOf, Doable}
+use Rattle.vhdx_close.proofs.Order.{runs-snoc}
 
 -- ---- what is decided
 
@@ -86,30 +77,9 @@ module _ (identifier b : List ℕ) (n : ℕ) where
     unfolding planBehind
     too-great e x = sym (closes-by ∙ ap₂ (λ (y : Ending) (p : Plan). planBehind y p (headerSector identifier (file b n) h)) (sym x) e)
 
--- ---- what the log's plan answers
-
-module _ (b : List ℕ) (n : ℕ) (r : Answer) (promised : (planBy b n r ≡ plan b n) × ((countOf r ≡ count (plan b n)) × ReadyIn (logOf b n) r)) where
-  pub plan-refused : {c : ℕ} → r ≡ LogRefused c → refused c ≡ plan b n
-  plan-refused e = sym (ap (planIn (logOf b n)) e) ∙ promised .0
-
-  pub work-planned : {w : Work} → r ≡ Apply w → {log : Extent} → log ≡ logExtent b n → Planned b n log w
-  work-planned e here =
-      record {
-        here = here;
-        same = sym (ap (planIn (logOf b n)) e) ∙ promised .0;
-        counted = sym (ap countOf e) ∙ promised .1 .0;
-        ready = subst (ReadyIn (logOf b n)) e (promised .1 .1);
-      }
-
 -- ---- the work, done
 
 module _ (identifier b : List ℕ) (n : ℕ) (job : Job) (d : Doable b n job) where
-  w : Work
-  w = job .work
-
-  log : Extent
-  log = job .log
-
   pub ss : List Sector
   ss = planned b (job .log) (job .work)
 
@@ -142,51 +112,38 @@ module _ (identifier b : List ℕ) (n : ℕ) (job : Job) (d : Doable b n job) wh
       go false true e x =
           omega (arith, ap (λ (y : Header). y .«sequence_number») (standing b n (d .current) .same), ltb-true (d .header .«sequence_number») greatest e)
 
-  -- what is kept: the first MiB
-  kept : Inv (file b n) (job .work .length) ss (runs (steps (apply (job .work .length) ss)) (file b n))
-  unfolding ss
-  kept =
-      let R = reads (file b n) (d .header) (d .current) log-plan in
-      ran (file b n) (job .work .length) ss (R .grows) (R .fits) (good R) (first R) (whole (steps (apply (job .work .length) ss)) (file b n))
+  -- before the work, and after it
+  pub closable-before : job .rewrite ≡ true → Closable b (job .slot)
+  closable-before r =
+      record {
+        large = omega (arith, accepted b n (d .current) .holds-first, accepted b n (d .current) .fits);
+        placed = ⊎-elim (λ x. inl (d .slot-is ∙ x .0)) (λ x. inr (d .slot-is ∙ x .0)) (standing b n (d .current) .slots);
+        below = subst (λ (s : ℕ). sequenceNumber (headerAt (firstMiB b) s) < greatest) (sym (d .slot-is)) (below r);
+      }
 
   module _ (g : List ℕ) (did : g ≡ runs (take (job .work .count + 1) (steps (plan b n))) (file b n) .buffer) where
-    done-log : g ≡ runs (steps (plan b n)) (file b n) .buffer
-    done-log = did ∙ ap (λ (v : List Step). runs v (file b n) .buffer) (all-steps b n (job .log) (job .work) (d .planned))
-
-    same-buffer : g ≡ runs (steps (apply (job .work .length) ss)) (file b n) .buffer
-    same-buffer = done-log ∙ ap (λ (x : Plan). runs (steps x) (file b n) .buffer) log-plan
-
-    long : length g ≡ length b
-    long = ap length same-buffer ∙ kept .capacity
-
-    large : MiB ≤ length g
-    large = omega (arith, accepted b n (d .current) .holds-first, accepted b n (d .current) .fits, long)
-
-    same-start : firstMiB g ≡ firstMiB b
-    same-start =
-        let R = reads (file b n) (d .header) (d .current) log-plan in
-        same-first b g long (omega (arith, large, long))
-        (λ i l. ap (λ (x : List ℕ). getD x i 0) same-buffer ∙ untouched R kept i (inl l))
+    first-same : firstMiB g ≡ firstMiB b
+    first-same = same-start b n (job .log) (job .work) (d .planned) g did
 
     pub done-plain : job .rewrite ≡ false → g ≡ afterClose identifier (file b n) .buffer
     unfolding afterClose
-    done-plain r = done-log ∙ ap (λ (p : Plan). runs (steps p) (file b n) .buffer) (sym (plain-plan r))
+    done-plain r = done b n (job .log) (job .work) (d .planned) g did ∙ ap (λ (p : Plan). runs (steps p) (file b n) .buffer) (sym (plain-plan r))
 
     pub closable : job .rewrite ≡ true → Closable g (job .slot)
     closable r =
+        let before = closable-before r in
         record {
-          large = large;
-          placed = ⊎-elim (λ x. inl (d .slot-is ∙ x .0)) (λ x. inr (d .slot-is ∙ x .0)) (standing b n (d .current) .slots);
-          below = subst (λ (m : List ℕ). sequenceNumber (headerAt m (job .slot)) < greatest) (sym same-start)
-              (subst (λ (s : ℕ). sequenceNumber (headerAt (firstMiB b) s) < greatest) (sym (d .slot-is)) (below r));
+          large = omega (arith, before .large, long b n (job .log) (job .work) (d .planned) g did);
+          placed = before .placed;
+          below = subst (λ (m : List ℕ). sequenceNumber (headerAt m (job .slot)) < greatest) (sym first-same) (before .below);
         }
 
     pub done-header : (g′ : List ℕ) → job .rewrite ≡ true → g′ ≡ headerWritten g (job .slot) identifier → g′ ≡ afterClose identifier (file b n) .buffer
-    unfolding afterClose headerWritten c
+    unfolding afterClose headerWritten c ss
     done-header g′ r e =
         e
-        ∙ ap (λ (m : List ℕ). put g (otherSlot (job .slot)) (closedHeader (headerAt m (job .slot)) identifier)) same-start
+        ∙ ap (λ (m : List ℕ). put g (otherSlot (job .slot)) (closedHeader (headerAt m (job .slot)) identifier)) first-same
         ∙ ap (λ (s : ℕ). put g (otherSlot s) (closedHeader (headerAt (firstMiB b) s) identifier)) (d .slot-is)
-        ∙ ap (λ (x : List ℕ). put x (otherSlot (d .header .slot)) (closedHeader (headerAt (firstMiB b) (d .header .slot)) identifier)) same-buffer
+        ∙ ap (λ (x : List ℕ). put x (otherSlot (d .header .slot)) (closedHeader (headerAt (firstMiB b) (d .header .slot)) identifier)) (same-buffer b n (job .log) (job .work) (d .planned) g did)
         ∙ ap (λ (f : File). f .buffer) (sym (runs-snoc ss c (run (grow (job .work .length)) (file b n))))
         ∙ ap (λ (p : Plan). runs (steps p) (file b n) .buffer) (sym (header-plan r))

@@ -37,7 +37,7 @@ use Rattle.vhdx_rewrite.specs.Rewrite.{greatest}
 use Rattle.vhdx_close.specs.Close.{slotIn, headerSector, closing, closedBy, closePlan, afterClose, afterCloseStep, closeAnswer}
 use Rattle.vhdx_close.specs.Calls.{Calls, none, close, step, refuse, interrupted-close, interrupted-step}
 use Rattle.vhdx_close.specs.Safety.{Recloses, CloseSafe, NothingBeyondClose, HasNoLog, ClosesForGood}
-use Rattle.vhdx_close.proofs.Answering.{written-size}
+use Rattle.vhdx_replay.proofs.Done.{written-size}
 use Rattle.vhdx_rewrite.proofs.Slots.{slots-low, slot-same}
 use Rattle.vhdx_close.proofs.Again.{slots-of, KeptHere, still-current, close-again}
 use Rattle.vhdx_close.proofs.Order.{ran-nil, refused-same, untouched as kept-here, plan-is, ends, for-good, closed-by-calls}

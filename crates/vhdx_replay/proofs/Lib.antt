@@ -11,3 +11,4 @@ pub mod Reading
 pub mod Loop
 pub mod Applying
 pub mod Chosen
+pub mod Done

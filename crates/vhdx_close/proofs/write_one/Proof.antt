@@ -2,7 +2,8 @@
 -- Assumes nothing.
 use native.Mathlib.Omega.{arith}
 use Rattle.vhdx_replay.proofs.Sectors.{clash}
-use Rattle.vhdx_close.proofs.Answering.{sector-step, no-step, closable-now, header-step}
+use Rattle.vhdx_close.proofs.Doing.{closable-before}
+use Rattle.vhdx_close.proofs.Answering.{sector-step, no-step, header-step}
 use borrow.Author.Needs.{needs}
 use Rattle.vhdx_close.proofs.write_one.Statement.{statement}
 use Rattle.vhdx_close.proofs.write_one.Tie as tie
@@ -21,7 +22,7 @@ write-requires c κs =
     let t = c .before .before .before in
     let s = t .before .before .before .before .before .before in
     let a = s .args in
-    closable-now (a .identifier .now) (a .buffer .now) (a .length) (a .job) (s .pre) (a .i) (t .if2 .taken)
+    closable-before (a .identifier .now) (a .buffer .now) (a .length) (a .job) (s .pre) (t .if2 .taken)
 
 returns-2 : tie.Need-returns-2
 returns-2 c =
