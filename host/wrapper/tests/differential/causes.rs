@@ -1,7 +1,8 @@
 //! Every refusal from several causes, and the model's answer with it.
 use crate::pair::Pair;
 use shrunvaki_testkit::causes::{good, FILES};
-use shrunvaki_testkit::image::MIB;
+use shrunvaki_testkit::closing::WRITER;
+use shrunvaki_testkit::image::{GUID, HEADERS, MIB};
 use shrunvaki_testkit::pending::r1_with;
 use shrunvaki_testkit::sample::{entry, forbidden, Sample, M, MINUS_TEN, TIB};
 use shrunvaki_testkit::tables::{
@@ -202,6 +203,21 @@ fn steps(pair: &mut Pair) {
     }
 }
 
+/// Logs that can be applied and not closed: no sequence number follows the current header's.
+fn closes(pair: &mut Pair) {
+    for at in HEADERS {
+        let mut image = good();
+        image.header(at, u64::MAX, GUID);
+        pair.answers(&image, 0, "attached");
+        pair.load(&image);
+        assert_eq!(pair.close(&WRITER).refusal, 23, "header at {at}");
+        pair.load(&image);
+        for k in [0, 1, 3, u64::MAX] {
+            assert_eq!(pair.close_step(&WRITER, k).refusal, 23, "step {k}");
+        }
+    }
+}
+
 #[test]
 fn every_refusal_from_several_causes() {
     let mut pair = Pair::default();
@@ -218,6 +234,7 @@ fn every_refusal_from_several_causes() {
     }
     lookups(&mut pair);
     steps(&mut pair);
+    closes(&mut pair);
     pair.tally.print("causes");
-    pair.tally.assert_reached(1..=22, 3);
+    pair.tally.assert_reached(1..=23, 3);
 }
