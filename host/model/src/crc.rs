@@ -43,6 +43,13 @@ pub fn agrees<'a>(first: &'a [u8], rest: impl Iterator<Item = &'a [u8]>) -> bool
     crc32c_of(pieces.into_iter().chain(rest)) == number32(first, 4)
 }
 
+/// Makes the checksum of a structure in one piece anew.
+pub fn seal(bytes: &mut [u8]) {
+    bytes[4..8].fill(0);
+    let sum = crc32c(bytes);
+    bytes[4..8].copy_from_slice(&sum.to_le_bytes());
+}
+
 #[cfg(test)]
 mod tests {
     use super::*;

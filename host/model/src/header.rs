@@ -7,10 +7,11 @@ const OFFSETS: [usize; 2] = [65536, 131072];
 /// House limit.
 const LONGEST_LOG: u64 = 64 * MIB;
 
-/// What a header says, as far as rules name it.
+/// Where a header is, and what it says as far as rules name it.
 #[derive(Clone, Copy)]
 pub struct Header {
-    number: u64,
+    pub offset: usize,
+    pub number: u64,
     pub log_id: [u8; 16],
     log_version: u16,
     version: u16,
@@ -20,7 +21,7 @@ pub struct Header {
 impl Header {
     /// "The only valid one, or the valid one with the greater sequence number." With equal numbers none is current.
     pub fn current(image: &[u8]) -> Option<Header> {
-        match OFFSETS.map(|at| Header::valid(&image[at..at + SECTOR])) {
+        match OFFSETS.map(|offset| Header::valid(image, offset)) {
             [Some(a), Some(b)] if a.number == b.number => None,
             [Some(a), Some(b)] => Some(if a.number > b.number { a } else { b }),
             [a, b] => a.or(b),
@@ -28,11 +29,13 @@ impl Header {
     }
 
     /// "Valid if it begins "head" and its CRC-32C agrees." Fields are not judged yet.
-    fn valid(bytes: &[u8]) -> Option<Header> {
+    fn valid(image: &[u8], offset: usize) -> Option<Header> {
+        let bytes = &image[offset..offset + SECTOR];
         if !bytes.starts_with(b"head") || !crc::agrees(bytes, [].into_iter()) {
             return None;
         }
         Some(Header {
+            offset,
             number: number64(bytes, 8),
             log_id: array(bytes, 48),
             log_version: number16(bytes, 64),
@@ -42,6 +45,16 @@ impl Header {
                 length: u64::from(number32(bytes, 68)),
             },
         })
+    }
+
+    /// The place of the other header, whatever is there.
+    pub fn other_offset(&self) -> usize {
+        let [first, second] = OFFSETS;
+        if self.offset == first {
+            second
+        } else {
+            first
+        }
     }
 
     /// "Log identifier zero: no active sequence."

@@ -1,7 +1,8 @@
-//! VHDX attach, step, lookup and parent key in ordinary Rust, written from document 01 alone: what tests hold the proved library
-//! to, and what benchmarks measure it against. It follows the document's definitions and shares nothing with the library. No
-//! input makes it panic.
+//! VHDX attach, step, close, lookup and parent key in ordinary Rust, written from documents 01 and 02 alone: what tests hold the
+//! proved library to, and what benchmarks measure it against. It follows the documents' definitions and shares nothing with the
+//! library. No input makes it panic.
 mod bytes;
+mod close;
 mod crc;
 mod extent;
 mod geometry;
@@ -18,7 +19,10 @@ mod work;
 
 #[cfg(test)]
 mod numbers;
+#[cfg(test)]
+mod testing;
 
+pub use close::{close, close_step, Closed};
 pub use crc::crc32c;
 pub use extent::Extent;
 pub use lookup::{lookup, parent_key};
@@ -77,10 +81,7 @@ pub fn attach(buffer: &mut [u8], length: u64) -> Attachment {
             }
         }
     };
-    plan.grow(buffer, length);
-    for sector in plan.sectors() {
-        plan.write(buffer, sector);
-    }
+    plan.apply(buffer, length);
     let image = &buffer[..plan.length as usize];
     // "on a refusal every fact is zero"
     let (refusal, facts) = match tables::read(image, plan.log) {
@@ -97,25 +98,8 @@ pub fn attach(buffer: &mut [u8], length: u64) -> Attachment {
 
 /// Does step k of the log's work alone: step 0 grows the image, step k from 1 on writes sector k.
 pub fn step(buffer: &mut [u8], length: u64, k: u64) -> Stepped {
-    let refused = |refusal| Stepped { refusal, length };
-    let plan = match plan(buffer, length) {
-        Ok(plan) => plan,
-        Err(refusal) => return refused(refusal),
-    };
-    if k == 0 {
-        plan.grow(buffer, length);
-        return Stepped {
-            refusal: 0,
-            length: plan.length,
-        };
+    match plan(buffer, length) {
+        Ok(plan) => plan.step(buffer, length, k),
+        Err(refusal) => Stepped { refusal, length },
     }
-    let Some(sector) = plan.sector(k) else {
-        return refused(21);
-    };
-    // the file may be shorter than step 0 would leave it
-    if !sector.extent().inside(length) {
-        return refused(22);
-    }
-    plan.write(buffer, sector);
-    refused(0)
 }

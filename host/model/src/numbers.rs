@@ -1,36 +1,13 @@
 //! Document 01's "Numbers to try", on images that this file builds.
 use crate::bytes::{MIB, SECTOR, TIB};
+use crate::crc::seal;
 use crate::geometry::{self, Place};
 use crate::identifier::{
     Identifier, BAT, DISK_ID, DISK_SIZE, FILE_PARAMETERS, LOGICAL_SECTOR_SIZE, METADATA,
     PHYSICAL_SECTOR_SIZE,
 };
-use crate::{attach, crc32c, lookup, plan, step, Attachment, Extent, Facts, Lookup, Stepped};
-
-fn put(bytes: &mut [u8], at: u64, value: &[u8]) {
-    bytes[at as usize..][..value.len()].copy_from_slice(value);
-}
-
-/// Writes the checksum of a structure that holds it at bytes 4 to 7.
-fn seal(bytes: &mut [u8]) {
-    put(bytes, 4, &[0; 4]);
-    let sum = crc32c(bytes);
-    put(bytes, 4, &sum.to_le_bytes());
-}
-
-/// A buffer with a header whose log is 1 MiB at 1 MiB.
-fn buffer(capacity: u64, log_id: [u8; 16]) -> Vec<u8> {
-    let mut buffer = vec![0; capacity as usize];
-    put(&mut buffer, 0, b"vhdxfile");
-    let header = &mut buffer[65536..65536 + SECTOR];
-    put(header, 0, b"head");
-    put(header, 48, &log_id);
-    put(header, 66, &1u16.to_le_bytes());
-    put(header, 68, &(MIB as u32).to_le_bytes());
-    put(header, 72, &MIB.to_le_bytes());
-    seal(header);
-    buffer
-}
+use crate::testing::{buffer, log_entry, put, LOG_ID};
+use crate::{attach, lookup, plan, step, Attachment, Extent, Facts, Lookup, Stepped};
 
 // ---- L: from sector to place
 
@@ -86,29 +63,6 @@ fn l5_and_the_highest_offset() {
 }
 
 // ---- R: the log's work
-
-const LOG_ID: [u8; 16] = [7; 16];
-
-/// An entry that is its own tail: number 1, and zero descriptors by offset and length.
-fn log_entry(flushed: u64, last: u64, zeros: &[(u64, u64)]) -> Vec<u8> {
-    let mut entry = vec![0; (64 + 32 * zeros.len()).next_multiple_of(SECTOR)];
-    let length = entry.len() as u32;
-    put(&mut entry, 0, b"loge");
-    put(&mut entry, 8, &length.to_le_bytes());
-    put(&mut entry, 16, &1u64.to_le_bytes());
-    put(&mut entry, 24, &(zeros.len() as u32).to_le_bytes());
-    put(&mut entry, 32, &LOG_ID);
-    put(&mut entry, 48, &flushed.to_le_bytes());
-    put(&mut entry, 56, &last.to_le_bytes());
-    for (descriptor, &(offset, length)) in entry[64..].chunks_mut(32).zip(zeros) {
-        put(descriptor, 0, b"zero");
-        put(descriptor, 8, &length.to_le_bytes());
-        put(descriptor, 16, &offset.to_le_bytes());
-        put(descriptor, 24, &1u64.to_le_bytes());
-    }
-    seal(&mut entry);
-    entry
-}
 
 /// The final length and the count for an image of 3 MiB, or the refusal.
 fn r(capacity: u64, flushed: u64, offset: u64, length: u64) -> Result<(u64, u64), u64> {

@@ -4,7 +4,7 @@ use crate::bytes::{MIB, SECTOR, TIB};
 use crate::header::Header;
 use crate::log::{Entry, Log, Named};
 use crate::sequence;
-use crate::Extent;
+use crate::{Extent, Stepped};
 
 /// House limit.
 const LONGEST_IMAGE: u64 = 128 * TIB;
@@ -172,13 +172,42 @@ impl Plan {
         Some(self.runs[run].sector(number - self.runs[run].before))
     }
 
+    /// All steps, on an image of a length.
+    pub(crate) fn apply(&self, buffer: &mut [u8], length: u64) {
+        self.grow(buffer, length);
+        for sector in self.sectors() {
+            self.write(buffer, sector);
+        }
+    }
+
+    /// Step k alone, or refusals 21 and 22: step 0 grows the image, step k from 1 on writes sector k.
+    pub(crate) fn step(&self, buffer: &mut [u8], length: u64, k: u64) -> Stepped {
+        if k == 0 {
+            self.grow(buffer, length);
+            return Stepped {
+                refusal: 0,
+                length: self.length,
+            };
+        }
+        let refusal = match self.sector(k) {
+            None => 21,
+            // the file may be shorter than step 0 would leave it
+            Some(sector) if !sector.extent().inside(length) => 22,
+            Some(sector) => {
+                self.write(buffer, sector);
+                0
+            }
+        };
+        Stepped { refusal, length }
+    }
+
     /// Step 0: "grows the image with zeros".
-    pub(crate) fn grow(&self, buffer: &mut [u8], length: u64) {
+    fn grow(&self, buffer: &mut [u8], length: u64) {
         buffer[length as usize..self.length as usize].fill(0);
     }
 
     /// A step from 1 on. "A data sector is LeadingBytes, the 4,084 bytes, TrailingBytes."
-    pub(crate) fn write(&self, buffer: &mut [u8], sector: Sector) {
+    fn write(&self, buffer: &mut [u8], sector: Sector) {
         let at = sector.extent().offset as usize;
         let mut bytes = [0; SECTOR];
         if let Sector::Data {

@@ -3,8 +3,9 @@
 use crate::image::{Descriptor, Entry, Image, GUID, MIB, SECTOR};
 use crate::random::Random;
 use crate::sample::{entry, extent, M};
-use crate::tables::Disk;
+use crate::tables::{Disk, LOGICAL};
 use crate::vhdx::{self, Attachment, Facts, Stepped};
+use std::ops::Range;
 use vhdx_builder::sample::{self, sector_with};
 
 pub fn zero(offset: u64, length: u64) -> Descriptor {
@@ -175,12 +176,20 @@ impl Pending {
     /// past the old end.
     #[track_caller]
     pub fn assert_only_named(&self, buffer: &[u8]) {
+        self.assert_only_named_and(buffer, 0..0);
+    }
+
+    /// The same, but for a part of the first MiB that may hold anything.
+    #[track_caller]
+    pub fn assert_only_named_and(&self, buffer: &[u8], part: Range<usize>) {
         let original = &self.image.buffer;
         let log = self.image.log_offset..self.image.log_offset + self.image.log_length;
-        assert_same(&buffer[..MIB], &original[..MIB], "the first MiB");
+        for kept in [0..part.start, part.end..MIB] {
+            assert_same(&buffer[kept.clone()], &original[kept], "the first MiB");
+        }
         assert_same(&buffer[log.clone()], &original[log], "the log");
         let end = self.image.length as usize;
-        for at in (0..end).step_by(SECTOR) {
+        for at in (MIB..end).step_by(SECTOR) {
             let sector = at..end.min(at + SECTOR);
             if buffer[sector.clone()] != original[sector] {
                 let named = self.replay.sectors.iter().any(|(offset, _)| *offset == at);
@@ -285,4 +294,52 @@ pub fn rich(disk: &Disk) -> Pending {
 /// The file to try first, with what its log does.
 pub fn sample_file() -> Pending {
     Pending::with_replay(sample::pending(), Replay::of(&[sample::entry()]))
+}
+
+/// Without growth, every sector named twice, the second time by other bytes.
+pub fn no_growth() -> Pending {
+    let places = [2 * M + 65536, 3 * M, 3 * M + 4096];
+    let file = Disk::default().bytes();
+    let mut entries = [Entry::new(1, 7), Entry::new(2, 7)];
+    for (i, at) in places.into_iter().enumerate() {
+        let start = at as usize;
+        entries[0].descriptors.push(data(at, pattern(i as u8)));
+        let last = file[start..start + SECTOR].to_vec();
+        entries[1].descriptors.push(data(at, last));
+    }
+    let mut image = Image::new(4 * MIB, 4 * M, MIB, GUID);
+    image.tables(&Disk::default());
+    Pending::new(image, 7, &entries)
+}
+
+/// Growth alone, of one byte.
+pub fn growth_alone() -> Pending {
+    let mut entry = Entry::new(1, 0);
+    entry.last = 4 * M;
+    let mut image = Image::new(4 * MIB + 1, 4 * M - 1, MIB, GUID);
+    image.tables(&Disk::default());
+    Pending::new(image, 0, &[entry])
+}
+
+/// A file whose log identifier is zero.
+pub fn without_a_log() -> Pending {
+    let mut image = Image::new(4 * MIB + 100, 4 * M, MIB, [0; 16]);
+    image.tables(&Disk::default());
+    Pending::with_replay(image, Replay::of(&[]))
+}
+
+/// The log leaves a sector size that is refused.
+pub fn ends_in_14() -> Pending {
+    let mut disk = Disk::default();
+    disk.set(LOGICAL, &[0; 4]);
+    let bytes = disk.bytes();
+    let at = 2 * MIB + 65536;
+    let mut entry = Entry::new(1, 0)
+        .with(zero(at as u64, 4096))
+        .with(data(at as u64, bytes[at..at + SECTOR].to_vec()))
+        .with(zero(3 * M, 4 * 4096));
+    entry.last = 4 * M;
+    let mut image = Image::new(4 * MIB, 3 * M + 5000, MIB, GUID);
+    image.tables(&Disk::default());
+    Pending::new(image, 0, &[entry])
 }

@@ -2,7 +2,7 @@
 use shrunvaki::vhdx::raw;
 
 pub use shrunvaki::vhdx::raw::Slots;
-pub use vhdx_model::{Attachment, Extent, Facts, Lookup, Stepped};
+pub use vhdx_model::{Attachment, Closed, Extent, Facts, Lookup, Stepped};
 
 /// What the plan of a log's work is: a refusal's number, or the final length and the count of sectors to write.
 #[derive(Debug, PartialEq, Eq, Clone, Copy)]
@@ -134,6 +134,39 @@ pub fn step(buffer: &mut [u8], length: u64, k: u64) -> Stepped {
     Stepped {
         refusal,
         length: answer[1],
+    }
+}
+
+/// Applies the log and ends it. Asserts that the answer has the form that it has to have: the given length and no sectors with a
+/// refusal.
+pub fn close(buffer: &mut [u8], length: u64, identifier: &[u8; 16]) -> Closed {
+    let (refusal, [told, length_after, count]) = raw::close(buffer, length, identifier);
+    assert_eq!(refusal, told, "returned, and in the answer");
+    assert!(
+        matches!(refusal, 0..=8 | 23),
+        "no refusal of close: {refusal}"
+    );
+    if refusal != 0 {
+        assert_eq!((length_after, count), (length, 0), "beside a refusal");
+    }
+    Closed {
+        refusal,
+        length: length_after,
+        count,
+    }
+}
+
+/// Does step k of closing alone.
+pub fn close_step(buffer: &mut [u8], length: u64, identifier: &[u8; 16], k: u64) -> Stepped {
+    let (refusal, [told, length_after]) = raw::close_step(buffer, length, identifier, k);
+    assert_eq!(refusal, told, "returned, and in the answer");
+    assert!(
+        matches!(refusal, 0..=8 | 21..=23),
+        "no refusal of a step of close: {refusal}"
+    );
+    Stepped {
+        refusal,
+        length: length_after,
     }
 }
 

@@ -1,13 +1,13 @@
 //! Interrupted attaches and steps: after any list of calls, each run to its end or interrupted, one more attach gives what an attach of
 //! the original gives. A torn write leaves random bytes in its sector, interrupted growth any length between the given and the
 //! final one with garbage behind it. What the log names is known from the descriptors that the test laid into it.
-use shrunvaki_testkit::image::{Entry, Image, GUID, MIB, SECTOR};
+use shrunvaki_testkit::interrupted::Compared;
 use shrunvaki_testkit::pending::{
-    assert_same, data, pattern, r1, r1_with, rich, small_blocks, usual_facts, zero, Pending, Replay,
+    assert_same, ends_in_14, growth_alone, no_growth, r1, r1_with, rich, small_blocks, usual_facts,
+    without_a_log, Pending, Replay,
 };
 use shrunvaki_testkit::random::Random;
-use shrunvaki_testkit::sample::M;
-use shrunvaki_testkit::tables::{Disk, LOGICAL};
+use shrunvaki_testkit::tables::Disk;
 use shrunvaki_testkit::vhdx::{self, Attachment};
 
 /// A file whose log can be applied, and what attach answers for it.
@@ -35,53 +35,6 @@ impl Case {
     }
 }
 
-/// Without growth, every sector named twice, the second time by other bytes.
-fn no_growth() -> Pending {
-    let places = [2 * M + 65536, 3 * M, 3 * M + 4096];
-    let file = Disk::default().bytes();
-    let mut entries = [Entry::new(1, 7), Entry::new(2, 7)];
-    for (i, at) in places.into_iter().enumerate() {
-        let start = at as usize;
-        entries[0].descriptors.push(data(at, pattern(i as u8)));
-        let last = file[start..start + SECTOR].to_vec();
-        entries[1].descriptors.push(data(at, last));
-    }
-    let mut image = Image::new(4 * MIB, 4 * M, MIB, GUID);
-    image.tables(&Disk::default());
-    Pending::new(image, 7, &entries)
-}
-
-/// Growth alone, of one byte.
-fn growth_alone() -> Pending {
-    let mut entry = Entry::new(1, 0);
-    entry.last = 4 * M;
-    let mut image = Image::new(4 * MIB + 1, 4 * M - 1, MIB, GUID);
-    image.tables(&Disk::default());
-    Pending::new(image, 0, &[entry])
-}
-
-fn without_a_log() -> Pending {
-    let mut image = Image::new(4 * MIB + 100, 4 * M, MIB, [0; 16]);
-    image.tables(&Disk::default());
-    Pending::with_replay(image, Replay::of(&[]))
-}
-
-/// The log leaves a sector size that is refused.
-fn ends_in_14() -> Pending {
-    let mut disk = Disk::default();
-    disk.set(LOGICAL, &[0; 4]);
-    let bytes = disk.bytes();
-    let at = 2 * MIB + 65536;
-    let mut entry = Entry::new(1, 0)
-        .with(zero(at as u64, 4096))
-        .with(data(at as u64, bytes[at..at + SECTOR].to_vec()))
-        .with(zero(3 * M, 4 * 4096));
-    entry.last = 4 * M;
-    let mut image = Image::new(4 * MIB, 3 * M + 5000, MIB, GUID);
-    image.tables(&Disk::default());
-    Pending::new(image, 0, &[entry])
-}
-
 fn cases() -> Vec<Case> {
     let (disk, facts) = small_blocks();
     vec![
@@ -102,12 +55,10 @@ fn cases() -> Vec<Case> {
 /// What calls came to: attaches, steps done, refusals 21 and 22, interrupted growths, torn writes.
 type Reached = [u64; 6];
 
-/// A file between calls: the library's buffer, and beside it the one that document 01 says it is.
+/// A file between calls.
 struct File<'a> {
     case: &'a Case,
-    buffer: Vec<u8>,
-    expected: Vec<u8>,
-    length: u64,
+    now: Compared,
     reached: Reached,
 }
 
@@ -115,19 +66,14 @@ impl<'a> File<'a> {
     fn new(case: &'a Case) -> File<'a> {
         File {
             case,
-            buffer: case.pending.image.buffer.clone(),
-            expected: case.pending.image.buffer.clone(),
-            length: case.pending.image.length,
+            now: Compared::new(&case.pending.image),
             reached: [0; 6],
         }
     }
 
     /// As it came.
     fn reset(&mut self) {
-        let image = &self.case.pending.image;
-        self.buffer.copy_from_slice(&image.buffer);
-        self.expected.copy_from_slice(&image.buffer);
-        self.length = image.length;
+        self.now.reset(&self.case.pending.image);
     }
 
     fn replay(&self) -> &'a Replay {
@@ -138,26 +84,28 @@ impl<'a> File<'a> {
     #[track_caller]
     fn check(&self, call: &str) {
         let name = format!("{}, {call}", self.case.name);
-        assert_same(&self.buffer, &self.expected, &name);
-        self.case.pending.assert_only_named(&self.buffer);
+        self.now.assert_same(&name);
+        self.case.pending.assert_only_named(&self.now.buffer);
     }
 
     /// An attach that is run to its end.
     fn attach(&mut self) {
-        let answer = vhdx::attach(&mut self.buffer, self.length);
+        let answer = vhdx::attach(&mut self.now.buffer, self.now.length);
         assert_eq!(answer, self.case.answer, "{}", self.case.name);
-        self.length = self.replay().all(&mut self.expected, self.length);
-        assert_eq!(answer.length, self.length, "{}", self.case.name);
+        self.now.length = self.replay().all(&mut self.now.expected, self.now.length);
+        assert_eq!(answer.length, self.now.length, "{}", self.case.name);
         self.reached[0] += 1;
         self.check("attach");
     }
 
     /// A step that is run to its end.
     fn step(&mut self, k: u64) {
-        let answer = vhdx::step(&mut self.buffer, self.length, k);
-        let expected = self.replay().step(&mut self.expected, self.length, k);
+        let answer = vhdx::step(&mut self.now.buffer, self.now.length, k);
+        let expected = self
+            .replay()
+            .step(&mut self.now.expected, self.now.length, k);
         assert_eq!(answer, expected, "{}, step {k}", self.case.name);
-        self.length = answer.length;
+        self.now.length = answer.length;
         let kind = match answer.refusal {
             21 => 2,
             22 => 3,
@@ -169,38 +117,27 @@ impl<'a> File<'a> {
 
     /// A step that is interrupted. One that is refused changes nothing.
     fn interrupt_step(&mut self, random: &mut Random, k: u64) {
-        let answer = self.replay().answer(self.length, k);
+        let answer = self.replay().answer(self.now.length, k);
         if k == 0 {
-            let more = answer.length - self.length;
-            let length = self.length + random.below(more + 1);
+            let more = answer.length - self.now.length;
+            let length = self.now.length + random.below(more + 1);
             self.interrupt_growth(random, length);
         } else if answer.refusal == 0 {
             self.tear(random, k);
         }
     }
 
-    /// Growth that is interrupted at a length. What is past it may hold anything.
+    /// Growth that is interrupted at a length.
     fn interrupt_growth(&mut self, random: &mut Random, length: u64) {
-        let (from, to) = (self.length as usize, length as usize);
-        self.expected[from..to].fill(0);
-        random.fill(&mut self.expected[to..]);
-        self.buffer[from..].copy_from_slice(&self.expected[from..]);
-        self.length = length;
+        self.now.interrupt_growth(random, length);
         self.reached[4] += 1;
         self.check("interrupted growth");
     }
 
-    /// A torn write of sector k: random bytes, the new bytes up to some place, or these the other way round.
+    /// A torn write of sector k.
     fn tear(&mut self, random: &mut Random, k: u64) {
         let (at, bytes) = &self.replay().sectors[k as usize - 1];
-        let sector = &mut self.expected[*at..at + SECTOR];
-        let stop = random.below(SECTOR as u64) as usize;
-        match random.below(4) {
-            0 => sector[..stop].copy_from_slice(&bytes[..stop]),
-            1 => sector[stop..].copy_from_slice(&bytes[stop..]),
-            _ => random.fill(sector),
-        }
-        self.buffer[*at..at + SECTOR].copy_from_slice(sector);
+        self.now.tear(random, *at, bytes);
         self.reached[5] += 1;
         self.check("torn write");
     }
@@ -220,11 +157,11 @@ impl<'a> File<'a> {
     /// One more attach, undisturbed: the answer and every byte of the file are those of an attach of the original.
     fn finish(&mut self) {
         let name = self.case.name;
-        let answer = vhdx::attach(&mut self.buffer, self.length);
+        let answer = vhdx::attach(&mut self.now.buffer, self.now.length);
         assert_eq!(answer, self.case.answer, "{name}");
-        let file = &self.buffer[..answer.length as usize];
+        let file = &self.now.buffer[..answer.length as usize];
         assert_same(file, &self.case.file, name);
-        self.length = self.replay().all(&mut self.expected, self.length);
+        self.now.length = self.replay().all(&mut self.now.expected, self.now.length);
         self.check("the last attach");
     }
 }

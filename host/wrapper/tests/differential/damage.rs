@@ -6,7 +6,8 @@ use crate::files::bases;
 use crate::pair::Pair;
 use crate::questions::{ask, number};
 use crate::seeds;
-use shrunvaki_testkit::image::{Image, HEADERS, SECTOR};
+use shrunvaki_testkit::closing::{place, WRITER};
+use shrunvaki_testkit::image::{put64, seal, Image, HEADERS, SECTOR};
 use shrunvaki_testkit::random::Random;
 use shrunvaki_testkit::sample::M;
 use shrunvaki_testkit::vhdx::Facts;
@@ -128,6 +129,13 @@ impl<'a> Case<'a> {
         }
     }
 
+    /// Gives the first header the sequence number that no other follows.
+    fn set_greatest_number(&mut self) {
+        let header = &mut self.image.buffer[place(0)];
+        put64(header, 8, u64::MAX);
+        seal(header);
+    }
+
     /// Puts random bytes anywhere in the file.
     fn spoil_bytes(&mut self, random: &mut Random) -> Field {
         let width = random.pick(&[1, 1, 8, 512]);
@@ -183,6 +191,26 @@ fn exercise(random: &mut Random, pair: &mut Pair, facts: &Facts) {
     }
 }
 
+/// Closes a file, at once or by one of its steps. Once the header is written, there is nothing left to do.
+fn close(random: &mut Random, pair: &mut Pair) {
+    let mut identifier = [0; 16];
+    random.fill(&mut identifier);
+    match random.below(4) {
+        0 => {
+            let k = number(random, pair);
+            pair.close_step(&identifier, k);
+        }
+        1 => {
+            let header = pair.plan().map_or(1, |plan| plan.count + 1);
+            pair.close_step(&identifier, header);
+        }
+        _ => drop(pair.close(&identifier)),
+    }
+    if random.one_in(8) {
+        pair.close(&WRITER);
+    }
+}
+
 #[test]
 fn damaged_files() {
     let bases = bases();
@@ -204,10 +232,18 @@ fn damaged_files() {
         };
         pair.load_with(&case.image.buffer, capacity, length);
         exercise(random, &mut pair, &base.facts);
+        // what attach left, or now and then the file as it came
+        if random.one_in(4) {
+            if random.one_in(4) {
+                case.set_greatest_number();
+            }
+            pair.load_with(&case.image.buffer, capacity, length);
+        }
+        close(random, &mut pair);
     });
     pair.tally.print("damaged files");
     if all {
-        pair.tally.assert_reached(0..=22, CASES / 200);
+        pair.tally.assert_reached(0..=23, CASES / 200);
         pair.tally.assert_found(CASES / 2);
     }
 }

@@ -1,5 +1,6 @@
 //! Files of many kinds, sound and without a pending log: what logs are drawn for and damage is done to.
-use shrunvaki_testkit::image::{Image, GUID, HEADERS};
+use shrunvaki_testkit::closing::full_header;
+use shrunvaki_testkit::image::{Image, GUID};
 use shrunvaki_testkit::random::Random;
 use shrunvaki_testkit::sample::{entry, M, TIB};
 use shrunvaki_testkit::tables::{
@@ -58,8 +59,8 @@ impl Kind {
         random.fill(&mut image.buffer[payload as usize..]);
         fill_bat(&mut image, &facts, random);
         // the second header is current in half of them
-        image.header(HEADERS[1], random.below(2) * 2, GUID);
-        image.header(HEADERS[0], 1, GUID);
+        full_header(&mut image, 1, random.below(2) * 2, GUID);
+        full_header(&mut image, 0, 1, GUID);
         image.length = self.length;
         Base { image, facts }
     }

@@ -1,12 +1,14 @@
 //! Lists of calls, each run to its end or interrupted, on files with logs drawn at random: after every list one more attach gives
-//! what an attach of the original gives. A torn write leaves any bytes in its sector, interrupted growth any length up to the
-//! final one and garbage past it.
+//! what an attach of the original gives, and after lists of closes one more close what closing the original gives. A torn write
+//! leaves any bytes in its sector, interrupted growth any length up to the final one and garbage past it. Steps of closing are
+//! done in their order, from 0 on again after each interruption.
 use crate::draw::{capacity, Draw};
 use crate::files::{bases, Base};
 use crate::pair::Pair;
 use crate::questions::number;
 use crate::seeds;
-use shrunvaki_testkit::image::{Image, SECTOR};
+use shrunvaki_testkit::closing::WRITER;
+use shrunvaki_testkit::image::{Image, HEADERS, SECTOR};
 use shrunvaki_testkit::pending::assert_same;
 use shrunvaki_testkit::random::Random;
 use shrunvaki_testkit::vhdx::{Attachment, Extent};
@@ -14,13 +16,15 @@ use std::ops::Range;
 use vhdx_model::{self as model, Plan, Sector};
 
 const LISTS: u64 = 1_500;
+const LISTS_OF_CLOSES: u64 = 300;
 
-/// How often a list met what interrupts it: growth, a write, an attach.
+/// How often lists met what interrupts them: growth, a write, the header's, a whole attach or close.
 #[derive(Default, Debug)]
 struct Met {
     growths: u64,
     writes: u64,
-    attaches: u64,
+    headers: u64,
+    calls: u64,
 }
 
 /// A file as it came, and what an attach of it gives.
@@ -53,10 +57,12 @@ impl Original {
         }
     }
 
-    /// "The file differs from the original only in sectors that the applied sequence names and in bytes past the old end."
+    /// "The file differs from the original only in sectors that the applied sequence names and in bytes past the old end", and
+    /// where else it may.
     #[track_caller]
-    fn assert_only_named(&self, buffer: &[u8]) {
-        let mut named: Vec<Extent> = self.plan.sectors().map(Sector::extent).collect();
+    fn assert_only_named(&self, buffer: &[u8], and: Option<Extent>) {
+        let sectors = self.plan.sectors().map(Sector::extent);
+        let mut named: Vec<Extent> = sectors.chain(and).collect();
         named.sort_by_key(|extent| extent.offset);
         let end = self.image.length as usize;
         let mut from = 0;
@@ -114,7 +120,7 @@ fn interrupt_attach(random: &mut Random, pair: &mut Pair, met: &mut Met) {
     if done < steps && !random.one_in(4) {
         interrupt_step(random, pair, done, met);
     }
-    met.attaches += 1;
+    met.calls += 1;
 }
 
 fn call(random: &mut Random, pair: &mut Pair, met: &mut Met) {
@@ -141,7 +147,7 @@ fn interrupted_lists_of_calls() {
         pair.load_with(&file.buffer, original.capacity, file.length);
         for _ in 0..random.below(6) {
             call(random, &mut pair, &mut met);
-            original.assert_only_named(pair.buffer());
+            original.assert_only_named(pair.buffer(), None);
         }
         assert_eq!(pair.attach(), original.answer, "as of the original");
         let end = original.answer.length as usize;
@@ -152,10 +158,120 @@ fn interrupted_lists_of_calls() {
     pair.tally.print("interrupted lists");
     println!("  {met:?}");
     if all {
-        let least = met.growths.min(met.writes).min(met.attaches);
+        let least = met.growths.min(met.writes).min(met.calls);
         assert!(least >= LISTS / 4, "{met:?}");
         pair.tally.assert_reached(0..=0, LISTS / 2);
         pair.tally.assert_reached(12..=12, LISTS / 100);
         pair.tally.assert_reached(21..=22, LISTS / 20);
+    }
+}
+
+/// A file that is being closed: the header that closing writes, where, and which step comes next.
+struct Closing {
+    slot: Extent,
+    header: Vec<u8>,
+    next: u64,
+}
+
+impl Closing {
+    /// Of an original, whose closed form the model gives.
+    fn new(original: &Original, closed: &[u8]) -> Closing {
+        let differs =
+            |&at: &usize| closed[at..at + SECTOR] != original.image.buffer[at..at + SECTOR];
+        let at = HEADERS.into_iter().find(differs).expect("a new header");
+        Closing {
+            slot: Extent {
+                offset: at as u64,
+                length: SECTOR as u64,
+            },
+            header: closed[at..at + SECTOR].to_vec(),
+            next: 0,
+        }
+    }
+
+    fn place(&self) -> usize {
+        self.slot.offset as usize
+    }
+
+    /// Some steps from the next one on, often up to the header.
+    fn steps(&mut self, random: &mut Random, pair: &mut Pair) {
+        let header = pair.plan().map_or(1, |plan| plan.count + 1);
+        let end = match random.below(2) {
+            0 => header,
+            _ => self.next + random.below(20),
+        };
+        while self.next < end.min(40) && pair.close_step(&WRITER, self.next).refusal == 0 {
+            self.next += 1;
+        }
+    }
+
+    /// The next step, interrupted.
+    fn interrupt(&mut self, random: &mut Random, pair: &mut Pair, met: &mut Met) {
+        let is_closed = pair.buffer()[self.place()..].starts_with(&self.header);
+        let header = pair.plan().map(|plan| plan.count + 1);
+        if !is_closed && header == Some(self.next) {
+            // the new header up to a byte, and what was there or anything behind it
+            let mut torn = pair.buffer()[self.place()..][..SECTOR].to_vec();
+            if random.one_in(2) {
+                random.fill(&mut torn);
+            }
+            let stop = random.pick(&[0, 4, 16, 60, 64, 512, SECTOR]);
+            torn[..stop].copy_from_slice(&self.header[..stop]);
+            pair.put(self.place(), &torn);
+            met.headers += 1;
+        } else {
+            interrupt_step(random, pair, self.next, met);
+        }
+        self.next = 0;
+    }
+
+    fn call(&mut self, random: &mut Random, pair: &mut Pair, met: &mut Met) {
+        match random.below(8) {
+            0 => drop(pair.close(&WRITER)),
+            1..=3 => self.steps(random, pair),
+            4 => drop(pair.close_step(&WRITER, u64::MAX)),
+            5 => self.interrupt(random, pair, met),
+            _ => {
+                self.next = 0;
+                self.steps(random, pair);
+                self.interrupt(random, pair, met);
+                met.calls += 1;
+            }
+        }
+    }
+}
+
+#[test]
+fn interrupted_lists_of_closes() {
+    let bases = bases();
+    let mut pair = Pair::default();
+    let mut met = Met::default();
+    let mut memory = Some((bases[0].image.clone(), Vec::new()));
+    let all = seeds::each(1..=LISTS_OF_CLOSES, |random| {
+        let chosen = random.below(bases.len() as u64) as usize;
+        let (image, closed) = memory.take().expect("as the list before left it");
+        let mut original = Original::draw(random, &bases[chosen], image, closed);
+        let file = &original.image;
+        pair.load_with(&file.buffer, original.capacity, file.length);
+        // closing what attach left is closing the original
+        let closed = &mut original.applied[..original.capacity as usize];
+        let length = model::close(closed, original.answer.length, &WRITER).length;
+        let mut closing = Closing::new(&original, &original.applied);
+        for _ in 0..random.below(7) {
+            closing.call(random, &mut pair, &mut met);
+            original.assert_only_named(pair.buffer(), Some(closing.slot));
+        }
+        assert_eq!(pair.close(&WRITER).length, length, "as of the original");
+        let end = length as usize;
+        let name = "every byte of the file";
+        assert_same(&pair.buffer()[..end], &original.applied[..end], name);
+        memory = Some((original.image, original.applied));
+    });
+    pair.tally.print("interrupted lists of closes");
+    println!("  {met:?}");
+    if all {
+        let least = met.growths.min(met.writes).min(met.headers).min(met.calls);
+        assert!(least >= LISTS_OF_CLOSES / 10, "{met:?}");
+        pair.tally.assert_reached(21..=21, LISTS_OF_CLOSES / 10);
     }
 }

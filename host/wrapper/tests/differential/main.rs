@@ -1,5 +1,5 @@
 //! The proved library held to the model, call by call: the answer, and every byte of the buffer. The model is written from
-//! document 01 alone, in ordinary Rust.
+//! documents 01 and 02 alone, in ordinary Rust.
 //!
 //! What is drawn at random is drawn from a seed, which a failing test names; `SEED=n` runs that one alone.
 mod causes;

@@ -1,9 +1,10 @@
 //! A file in two buffers, one for the proved library and one for the model: every call is made on both, and both have to answer
 //! the same and leave the same bytes.
 use crate::tally::Tally;
+use shrunvaki_testkit::closing::WRITER;
 use shrunvaki_testkit::image::Image;
 use shrunvaki_testkit::pending::assert_same;
-use shrunvaki_testkit::vhdx::{self, Attachment, Extent, Facts, Lookup, Plan, Stepped};
+use shrunvaki_testkit::vhdx::{self, Attachment, Closed, Extent, Facts, Lookup, Plan, Stepped};
 use vhdx_model as model;
 
 #[derive(Default)]
@@ -78,13 +79,46 @@ impl Pair {
         answer
     }
 
-    /// Attaches a file that is answered with a refusal, or 0, and asks for steps before that.
+    #[track_caller]
+    pub fn close(&mut self, identifier: &[u8; 16]) -> Closed {
+        let answer = vhdx::close(&mut self.proved[..self.capacity], self.length, identifier);
+        let expected = model::close(&mut self.model[..self.capacity], self.length, identifier);
+        assert_eq!(answer, expected, "close at {}", self.length);
+        assert_same(&self.proved, &self.model, "after close");
+        self.follow(answer.refusal, answer.length);
+        answer
+    }
+
+    #[track_caller]
+    pub fn close_step(&mut self, identifier: &[u8; 16], k: u64) -> Stepped {
+        let buffer = &mut self.proved[..self.capacity];
+        let answer = vhdx::close_step(buffer, self.length, identifier, k);
+        let buffer = &mut self.model[..self.capacity];
+        let expected = model::close_step(buffer, self.length, identifier, k);
+        assert_eq!(answer, expected, "step {k} of close at {}", self.length);
+        assert_same(&self.proved, &self.model, "after a step of close");
+        self.follow(answer.refusal, answer.length);
+        answer
+    }
+
+    /// Attaches a file that is answered with a refusal, or 0. Before that it asks for steps, of which the last closes the log,
+    /// and closes the file as it came.
     #[track_caller]
     pub fn answers(&mut self, image: &Image, refusal: u64, name: &str) -> Attachment {
         self.load(image);
         for k in [1, u64::MAX, 0, 1, 2] {
             self.step(k);
         }
+        let header = self.plan().map_or(0, |plan| plan.count + 1);
+        for k in [1, header + 1, header, header] {
+            self.close_step(&WRITER, k);
+        }
+        self.load(image);
+        self.close_step(&WRITER, 2);
+        let closed = self.close(&WRITER).refusal;
+        // closing reads no tables; it refuses as attach does, or by 23
+        let as_attach = if refusal <= 8 { refusal } else { 0 };
+        assert!(closed == as_attach || closed == 23, "{name}: {closed}");
         self.load(image);
         let answer = self.attach();
         assert_eq!(answer.refusal, refusal, "{name}");

@@ -6,7 +6,7 @@ use std::ops::RangeInclusive;
 pub struct Tally {
     pub files: u64,
     /// By the refusal's number; 0 is none.
-    answers: [u64; 23],
+    answers: [u64; 24],
     found: Found,
 }
 
@@ -20,7 +20,7 @@ struct Found {
 }
 
 impl Tally {
-    /// An answer of attach or step.
+    /// An answer of attach, close or a step.
     pub fn add(&mut self, refusal: u64) {
         self.answers[refusal as usize] += 1;
     }
