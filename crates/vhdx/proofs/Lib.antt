@@ -4,6 +4,7 @@ pub mod Stepping
 pub mod Refusals
 pub mod CrashSafety
 pub mod CloseRefusals
+pub mod CloseForetelling
 pub mod CloseSafety
 pub mod Beyond
 pub mod Examples

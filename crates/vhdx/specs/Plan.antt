@@ -2,6 +2,8 @@
 -- no", 1 to 8).
 -- Assumes nothing.
 use mathlib.Core.Bool.{cond}
+use mathlib.Core.List.{List}
+use mathlib.Core.Logic.{_⊎_}
 use mathlib.Core.Path.{_≡_}
 use Prim.Native.Nat.{ℕ}
 use lib.Dec.{leb}
@@ -9,6 +11,8 @@ use lib.ListN.{length}
 use Rattle.vhdx_log.specs.Work.{Plan, refused, apply}
 use Rattle.vhdx_replay.specs.Steps.{File}
 use Rattle.vhdx_replay.specs.Calls.{planOf}
+use Rattle.vhdx_close.specs.declared.Closed.{Closed}
+use Rattle.vhdx_close.specs.Close.{closeAnswer}
 use Rattle.vhdx.specs.declared.Attached.{Attached}
 use Rattle.vhdx.specs.declared.Planned.{Planned}
 use Rattle.vhdx.specs.Attach.{attachAnswer}
@@ -37,3 +41,11 @@ pub record AsPlanned (p : Planned) (a : Attached) : Type 0 where
 -- of every file. Proved in proofs/Foretelling.antt
 abbrev pub Foretells : Type 0
 Foretells = (f : File) → AsPlanned (planAnswer f) (attachAnswer f)
+
+-- Closing (change request Q-6) "refuses as 1 to 8 .. and answers as attach does in length and count": it answers what was planned, unless
+-- 23 refuses it. Proved in proofs/CloseForetelling.antt
+abbrev pub plannedOf : Closed → Planned
+plannedOf c = record { refusal = c .refusal; length = c .length; count = c .count }
+
+abbrev pub ForetellsClose : Type 0
+ForetellsClose = (identifier : List ℕ) (f : File) → (closeAnswer identifier f .refusal ≡ 23) ⊎ (plannedOf (closeAnswer identifier f) ≡ planAnswer f)
