@@ -4,7 +4,7 @@ mod common;
 
 use common::{assert_applied, assert_contents, assert_refused, assert_same_files};
 use common::{copy, shrunvaki, Answer};
-use shrunvaki_testkit::command::{end, folder, run, Folder, Ran};
+use shrunvaki_testkit::command::{compile_library, end, folder, run, Folder, Ran};
 use shrunvaki_testkit::json::Json;
 use shrunvaki_testkit::random::Random;
 use std::fs;
@@ -214,12 +214,10 @@ struct Killer {
 
 impl Killer {
     fn compile(folder: &Folder) -> Killer {
-        let source = Path::new(env!("CARGO_MANIFEST_DIR")).join("tests/qemu/kill_at_write.c");
-        let library = folder.file("kill_at_write.so");
-        let mut compile = Command::new("cc");
-        compile.args(["-O2", "-shared", "-fPIC", "-o"]);
-        end(compile.args([&library, &source]).arg("-ldl")).with(0);
-        Killer { library }
+        let source = Path::new(env!("CARGO_MANIFEST_DIR")).join("tests/preload/writes.c");
+        Killer {
+            library: compile_library(folder, &source),
+        }
     }
 
     /// Kills it at its n-th write, of which so many bytes are still written. Answers whether there were so many.
