@@ -4,8 +4,8 @@
 //! read. So every page of the buffer is copied from the file when it is first touched, by a handler of the fault that this raises,
 //! and the file is not asked for it again. Only what is touched takes memory, and a file may be larger than memory.
 //!
-//! What is written stays in the buffer. The handler notes the pages, since each is a sector of the log's: `write_to` brings them to
-//! the file.
+//! What is written stays in the buffer. The handler notes the pages, since each is a sector of the log's or a header: `write_to`
+//! brings them to the file.
 //!
 //! One thread touches the buffer, and no pointer into it is handed to the operating system, whose own accesses raise no fault.
 use crate::os::{end_when_lost, Lost};

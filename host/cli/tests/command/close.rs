@@ -272,12 +272,12 @@ fn close_while_changing(sample: &Sample, at: usize, pause: Duration) -> (Option<
 }
 
 #[test]
-fn a_header_that_changes_after_it_was_judged_is_not_written_over() {
-    // the one that is not current, which no page that was only read holds; then the current one
-    for at in HEADERS {
-        let at = at + 100;
+fn a_file_that_changes_after_it_was_judged_is_not_written_to() {
+    // the header that is not current, which no page that was only read holds; the current one; the log
+    for place in [HEADERS[0], HEADERS[1], MIB] {
+        let at = place + 100;
         // what is changed before the file is judged is judged: with a longer pause it is not
-        let refused = [100, 1000, 10_000].into_iter().any(|pause| {
+        let seen = [100, 1000, 10_000].into_iter().any(|pause| {
             let mut sample = Sample::pending();
             let (status, errors) = close_while_changing(&sample, at, Duration::from_millis(pause));
             let told = errors.contains("changed while it was read");
@@ -288,6 +288,6 @@ fn a_header_that_changes_after_it_was_judged_is_not_written_over() {
             }
             told
         });
-        assert!(refused, "a change at {at} was not seen");
+        assert!(seen, "a change at {at} was not seen");
     }
 }
