@@ -94,7 +94,8 @@ fn perform(
         Ok(closed) => closed,
         Err(refusal) => return Ok(Log::Refused(refusal)),
     };
-    // the count does not tell: a log that names no sector is closed too
+    // the count does not tell: a log that names no sector is closed too. The header that closing writes is never there before, where it
+    // would be the current one
     if headers(image.bytes()) == judged {
         return Ok(Log::None);
     }
