@@ -1,10 +1,10 @@
-//! Writes a VHDX file whose log takes long to apply, and prints what `host/cli/tests/kill-apply` watches: the lowest sector that the
-//! log writes, the highest, and the file's length afterwards.
+//! Writes a VHDX file whose log takes long to apply, and prints what `host/cli/tests/kill-apply` and `kill-close` watch: the lowest
+//! sector that the log writes, the highest, the file's length afterwards, and the header that closing writes.
 //!
 //! The log zeros a large area of the file again and again and puts other data into it now and then. The command writes a file's
 //! sectors from the lowest on: the first is the BAT's, the last the area's.
 use std::process::ExitCode;
-use vhdx_builder::image::{Descriptor, Entry, Image, GUID, MIB, SECTOR};
+use vhdx_builder::image::{Descriptor, Entry, Image, GUID, HEADERS, MIB, SECTOR};
 use vhdx_builder::sample::{sector_with, small_blocks};
 
 const M: u64 = MIB as u64;
@@ -85,7 +85,8 @@ fn main() -> ExitCode {
     };
     match std::fs::write(&path, image().buffer) {
         Ok(()) => {
-            println!("{FIRST} {LAST} {FINAL_LENGTH}");
+            // the first header is the current one
+            println!("{FIRST} {LAST} {FINAL_LENGTH} {}", HEADERS[1]);
             ExitCode::SUCCESS
         }
         Err(error) => {

@@ -6,17 +6,21 @@
 //! that is killed, between two writes or in one, is a state that the theorem of crash safety covers, which speaks of single steps in
 //! any order: running the command again gives what an undisturbed run gives.
 use crate::attach::{Log, Report};
-use crate::output::{note, Output, Status, Stop};
-use crate::progress::{timed, Progress};
+use crate::output::{Output, Status, Stop};
+use crate::progress::timed;
 use crate::snapshot::Snapshot;
 use crate::source::{Opened, Source};
-use crate::text::{grouped, size};
+use crate::text::grouped;
+use crate::writing::{self, announce};
 use shrunvaki::vhdx::{Attachment, Image, Plan};
 
 pub fn run(source: &Source, wait: bool, out: &mut Output) -> Result<Status, Stop> {
     // locked from before the decision until all is flushed: the file that is changed is the one that was judged
     let opened = source.open_exclusive(wait)?;
-    let report = perform(&opened, |plan| announce(&opened, plan, out))?;
+    let report = perform(&opened, |plan| {
+        let work = format!("applying: {} sectors", grouped(plan.count));
+        announce(&opened, plan, &work, out)
+    })?;
     report.print(out)
 }
 
@@ -50,44 +54,15 @@ pub fn perform(
     Report::new(opened, attachment, log)
 }
 
-/// Says what is about to be done, on standard error where standard output is JSON. A closed pipe stops nothing: what was decided is
-/// done.
-fn announce(opened: &Opened, plan: &Plan, out: &mut Output) -> Result<(), Stop> {
-    let growth = match plan.length - opened.length {
-        0 => "the file keeps its length".to_string(),
-        bytes => format!("the file grows by {} to {}", size(bytes), size(plan.length)),
-    };
-    let line = format!("applying: {} sectors; {growth}", grouped(plan.count));
-    if out.json {
-        note(format_args!("{line}\n"));
-        return Ok(());
-    }
-    match out.line(&line).and_then(|()| out.flush()) {
-        Err(Stop::ClosedPipe) => Ok(()),
-        other => other,
-    }
-}
-
 /// Extends the file to its final length, writes what the log has changed, and has all of it reach the disk. What was judged has to
 /// be there still.
 fn write_out(opened: &Opened, plan: &Plan, applied: &Snapshot) -> Result<(), Stop> {
-    let name = &opened.name;
-    let current = applied.is_current();
-    if !current.map_err(|error| Stop::failed(format!("{name}: {error}")))? {
-        return Err(Stop::failed(format!(
-            "{name}: changed while it was read, by a program that takes no lock; nothing was written"
-        )));
-    }
+    writing::require(applied.is_current(), opened)?;
     opened.grow(plan.length)?;
-    let mut progress = Progress::new("writing", 1);
-    applied
-        .write_to(&opened.file, plan.length, |done| {
-            progress.at(done, plan.length)
-        })
-        .and_then(|()| timed("flushing", || opened.file.sync_all()))
-        .map_err(|error| {
-            Stop::failed(format!(
-                "{name}: {error}; what was applied stays applied, and applying again does the rest"
-            ))
-        })
+    writing::write_out(opened, applied, 0..plan.length).map_err(|error| {
+        let name = &opened.name;
+        Stop::failed(format!(
+            "{name}: {error}; what was applied stays applied, and applying again does the rest"
+        ))
+    })
 }

@@ -1,8 +1,10 @@
 //! What the user asks for.
+use crate::close::Identifier;
 use crate::help;
 use crate::output::Stop;
 use crate::runs::Range;
 use crate::source::Source;
+use shrunvaki::vhdx::identifier_from_text;
 use std::collections::{BTreeMap, BTreeSet, VecDeque};
 use std::ffi::OsString;
 
@@ -11,6 +13,12 @@ pub enum Action {
     Attach(Source),
     Apply {
         source: Source,
+        wait: bool,
+    },
+    Close {
+        source: Source,
+        /// Drawn at random where it is not given.
+        identifier: Option<Identifier>,
         wait: bool,
     },
     Lookup(Source, Vec<u64>),
@@ -25,7 +33,7 @@ pub enum Action {
     Help(&'static str),
 }
 
-/// The options that take no value, and those that take a number.
+/// The options that take no value, those that take a number, and the one that takes an identifier.
 const FLAGS: [&str; 6] = [
     "--json",
     "--help",
@@ -41,6 +49,7 @@ const NUMBERS: [&str; 5] = [
     "--sector",
     "--count",
 ];
+const IDENTIFIER: &str = "--identifier";
 
 /// The options of every command, and of every command that takes a file.
 const ALWAYS: [&str; 3] = ["--json", "--help", "--version"];
@@ -58,6 +67,7 @@ struct Given {
     words: VecDeque<OsString>,
     flags: BTreeSet<&'static str>,
     numbers: BTreeMap<&'static str, u64>,
+    identifier: Option<Identifier>,
 }
 
 impl Action {
@@ -113,17 +123,19 @@ impl Given {
                 None => Ok(()),
             };
         }
-        let Some(name) = NUMBERS.iter().find(|number| **number == name) else {
+        let mut value = |what: &str| {
+            let next = || words.next().map(|word| word.to_string_lossy().into_owned());
+            let given = value.clone().or_else(next);
+            given.ok_or_else(|| misuse(format!("{name} needs {what}")))
+        };
+        if let Some(name) = NUMBERS.iter().find(|number| **number == name) {
+            self.numbers
+                .insert(name, number(name, &value("a number")?)?);
+        } else if name == IDENTIFIER {
+            self.identifier = Some(identifier(&value("an identifier")?)?);
+        } else {
             return Err(misuse(format!("there is no option {name:?}")));
-        };
-        let value = match value {
-            Some(value) => value,
-            None => match words.next() {
-                Some(word) => word.to_string_lossy().into_owned(),
-                None => return Err(misuse(format!("{name} needs a number"))),
-            },
-        };
-        self.numbers.insert(name, number(name, &value)?);
+        }
         Ok(())
     }
 
@@ -133,14 +145,8 @@ impl Given {
             self.only(name, &[], 0)?;
             return Ok(Action::Demo);
         }
-        let Some(path) = self.words.pop_front() else {
-            return Err(misuse(format!("{name} needs a file")));
-        };
-        let mut source = Source::new(path);
-        source.capacity = self.numbers.get("--capacity").copied();
-        if let Some(sectors) = self.numbers.get("--max-sectors") {
-            source.max_sectors = *sectors;
-        }
+        let source = self.source(name)?;
+        let wait = self.flags.contains("--wait");
         let of_file = |more: &[&'static str]| [&OF_FILES, more].concat();
         match name {
             "lookup" => {
@@ -167,9 +173,16 @@ impl Given {
                 let key = key.map(|key| key.to_string_lossy().into_owned());
                 Ok(Action::Parent(source, key))
             }
+            "close" => {
+                self.only(name, &of_file(&[IDENTIFIER, "--wait"]), 0)?;
+                Ok(Action::Close {
+                    source,
+                    identifier: self.identifier,
+                    wait,
+                })
+            }
             _ if self.flags.contains("--apply") => {
                 self.only(name, &of_file(&["--apply", "--wait"]), 0)?;
-                let wait = self.flags.contains("--wait");
                 Ok(Action::Apply { source, wait })
             }
             _ => {
@@ -177,6 +190,19 @@ impl Given {
                 Ok(Action::Attach(source))
             }
         }
+    }
+
+    /// The file, which is the next word, with its limits.
+    fn source(&mut self, name: &str) -> Result<Source, Stop> {
+        let Some(path) = self.words.pop_front() else {
+            return Err(misuse(format!("{name} needs a file")));
+        };
+        let mut source = Source::new(path);
+        source.capacity = self.numbers.get("--capacity").copied();
+        if let Some(sectors) = self.numbers.get("--max-sectors") {
+            source.max_sectors = *sectors;
+        }
+        Ok(source)
     }
 
     fn sectors(&self) -> Result<Vec<u64>, Stop> {
@@ -198,7 +224,10 @@ impl Given {
 
     /// That nothing was given that the command does not take: options of other commands, more words than these.
     fn only(&self, command: &str, options: &[&str], words: usize) -> Result<(), Stop> {
-        let mut given = self.flags.iter().chain(self.numbers.keys());
+        let identifier = self.identifier.as_ref().map(|_| &IDENTIFIER);
+        let mut given = (self.flags.iter())
+            .chain(self.numbers.keys())
+            .chain(identifier);
         let other = given.find(|name| !ALWAYS.contains(name) && !options.contains(name));
         if let Some(name) = other {
             return Err(misuse(format!("{command} does not take {name}")));
@@ -233,6 +262,15 @@ fn number(what: &str, text: &str) -> Result<u64, Stop> {
                 u64::MAX
             ))
         })
+}
+
+/// As identifiers are written.
+fn identifier(text: &str) -> Result<Identifier, Stop> {
+    identifier_from_text(text).ok_or_else(|| {
+        misuse(format!(
+            "{IDENTIFIER} is five groups of 8, 4, 4, 4 and 12 hexadecimal digits with hyphens between them, in braces or not, not {text:?}"
+        ))
+    })
 }
 
 fn topic(command: &str) -> Result<&'static str, Stop> {

@@ -60,13 +60,7 @@ impl<'a> Report<'a> {
     }
 
     pub fn print(&self, out: &mut Output) -> Result<Status, Stop> {
-        if out.json {
-            out.line(&self.object().finish())?;
-        } else {
-            for line in self.lines() {
-                out.line(&line)?;
-            }
-        }
+        out.answer(|| self.lines(), || self.object())?;
         Ok(match self.attachment.facts {
             Ok(_) => Status::Answered,
             Err(_) => Status::Refused,
@@ -84,12 +78,7 @@ impl<'a> Report<'a> {
             Err(refusal) => lines.extend(refused::lines(self.opened, *refusal)),
         }
         lines.extend(self.log_line());
-        lines.push(format!("length of the file: {}", size(self.host.length)));
-        lines.push(format!(
-            "allocated on the host: {}",
-            size(self.host.allocated)
-        ));
-        lines.push(format!("capacity: {}", size(self.opened.capacity)));
+        lines.extend(self.host.lines(self.opened));
         lines.extend(self.attachment.facts.iter().flat_map(facts_lines));
         lines
     }
@@ -100,7 +89,8 @@ impl<'a> Report<'a> {
             Log::Unknown => return None,
             Log::None => "log: none".to_string(),
             Log::Applied => {
-                "log: applied just now; it stays in the file until the log is closed".to_string()
+                "log: applied just now; it stays in the file until shrunvaki close ends it"
+                    .to_string()
             }
             Log::Pending if length == self.opened.length => {
                 format!(
@@ -131,12 +121,9 @@ impl<'a> Report<'a> {
             Log::Pending => object.text("log", "pending"),
             Log::Applied => object.text("log", "applied"),
         };
-        let object = object
-            .number("given_length", self.opened.length)
-            .number("capacity", self.opened.capacity)
-            .number("length", self.attachment.length)
-            .number("sectors", self.attachment.count)
-            .number("allocated", self.host.allocated)
+        let Attachment { length, count, .. } = self.attachment;
+        let object = (self.host)
+            .fields(object, self.opened, length, count)
             .boolean("locked_by_another", self.opened.locked_by_another);
         match facts {
             Ok(facts) => object.null("refusal").object("facts", facts_object(facts)),

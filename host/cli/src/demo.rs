@@ -124,7 +124,7 @@ fn crash(source: &Source) -> Result<(), Stop> {
     let torn = sample::BLOCK as usize + (WRITTEN as usize - 1) * SECTOR;
     buffer.as_mut()[torn..torn + SECTOR / 2].fill(b'?');
     opened.grow(length)?;
-    let written = buffer.write_to(&opened.file, length, |_| {});
+    let written = buffer.write_to(&opened.file, 0..length, |_| {});
     written.map_err(|error| failed(Path::new(&source.path), error))
 }
 

@@ -7,6 +7,7 @@ shrunvaki: what a VHDX file from a stranger is, by a library that is proved
 
   shrunvaki attach FILE            the size to charge, and what else the disk is
   shrunvaki attach --apply FILE    apply the file's pending log to the file itself
+  shrunvaki close FILE             the same, and close the log for good
   shrunvaki lookup FILE SECTOR..   where sectors of the disk are
   shrunvaki map FILE               where all of them are, in runs
   shrunvaki parent FILE [KEY]      where the parent disk is, if there is one
@@ -25,7 +26,8 @@ Options of all but demo, whose numbers may end in K, M, G or T (by 1,024):
   --max-sectors N    how many sectors the log may write, the zeros that it adds
                      to the file among them (by default 1M, which are 4 GiB)
 
-Only attach --apply changes the file. The others apply its log in memory.
+Only attach --apply and close change the file. The others apply its log in
+memory.
 
 Exit status: 0 answered; 1 refused, for one of the 23 reasons that have a
 number; 2 misuse, or a file that cannot be read or written; 3 cat met a sector
@@ -64,7 +66,33 @@ at most the one sector being written. A power failure may tear several sectors
 at once, of which the theorem as it is stated does not speak.
 
 The log stays in the file, and every attach applies it again. Nobody may write
-to the disk in between, or the log would undo it.
+to the disk in between, or the log would undo it; shrunvaki close ends that.
+";
+
+const CLOSE: &str = "\
+shrunvaki close FILE [--identifier GUID] [--wait] [--capacity BYTES]
+                [--max-sectors N] [--json]
+
+Applies the file's pending log to the file itself and ends it: one of the two
+headers is written anew, with the next sequence number, no log, and another
+file-write identifier. No attach applies the log again then, and other programs
+may write to the disk. Where no log is pending it says so and changes nothing.
+
+It takes an exclusive lock (--wait waits for another program's), decides first,
+and prints how many sectors the log writes and how far the file will grow. It
+extends the file, writes each sector that has changed, flushes, and only then
+writes the header, and flushes again: the header that says \"no log\" never is on
+the disk before the sectors. With a refusal, 1 to 8 or 23, the file is not
+touched. It reads no tables: it does not print what the disk is, and closes the
+log of a file whose tables attach refuses, by 9 to 15, too.
+
+  --identifier GUID  the file-write identifier: 8-4-4-4-12 hexadecimal digits,
+                     in braces or not. By default a random one, which is printed
+                     before anything is written
+
+Killed at any moment, it can be run again. With the same identifier the file is
+then what an undisturbed run would have made it. With another one the file has
+the first or the second identifier, and nothing else differs.
 ";
 
 const LOOKUP: &str = "\
@@ -122,6 +150,7 @@ that was never disturbed, and reads a sector.
 pub fn of(command: &str) -> Option<&'static str> {
     Some(match command {
         "attach" => ATTACH,
+        "close" => CLOSE,
         "lookup" => LOOKUP,
         "map" => MAP,
         "parent" => PARENT,

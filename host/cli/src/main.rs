@@ -1,12 +1,13 @@
 //! The command `shrunvaki`: what a VHDX file from a stranger is, answered by the proved library.
 //!
 //! A module a command; `arguments` and `help` are what a user writes and reads, `output`, `json`, `text` and `refused` what is
-//! printed, `source` a file under a `lock` in a `snapshot`, `foreign` files of other formats, `runs` the disk's sectors run by run,
-//! `progress` the line on long work, `os` what the standard library lacks.
+//! printed, `source` a file under a `lock` in a `snapshot`, `writing` how the file itself is changed, `foreign` files of other
+//! formats, `runs` the disk's sectors run by run, `progress` the line on long work, `os` what the standard library lacks.
 mod apply;
 mod arguments;
 mod attach;
 mod cat;
+mod close;
 mod demo;
 mod foreign;
 mod help;
@@ -23,6 +24,7 @@ mod runs;
 mod snapshot;
 mod source;
 mod text;
+mod writing;
 
 use arguments::Action;
 use output::{Output, Status, Stop};
@@ -44,6 +46,11 @@ fn run(action: Action, out: &mut Output) -> Result<Status, Stop> {
     match action {
         Action::Attach(source) => attach::run(&source, out),
         Action::Apply { source, wait } => apply::run(&source, wait, out),
+        Action::Close {
+            source,
+            identifier,
+            wait,
+        } => close::run(&source, identifier, wait, out),
         Action::Lookup(source, sectors) => lookup::run(&source, &sectors, out),
         Action::Map(source, range) => map::run(&source, range, out),
         Action::Parent(source, key) => parent::run(&source, key.as_deref(), out),

@@ -136,6 +136,18 @@ impl Output {
         self.bytes(b"\n")
     }
 
+    /// An answer, in lines or as one object.
+    pub fn answer(
+        &mut self,
+        lines: impl FnOnce() -> Vec<String>,
+        object: impl FnOnce() -> Object,
+    ) -> Result<(), Stop> {
+        match self.json {
+            true => self.line(&object().finish()),
+            false => lines().iter().try_for_each(|line| self.line(line)),
+        }
+    }
+
     pub fn bytes(&mut self, bytes: &[u8]) -> Result<(), Stop> {
         self.write_zeros()?;
         Ok(self.to.write_all(bytes)?)

@@ -50,13 +50,9 @@ pub fn lines(opened: &Opened, refusal: Refusal) -> [String; 2] {
 
 /// Says that a file was refused, where a command needs its facts.
 pub fn print(opened: &Opened, refusal: Refusal, out: &mut Output) -> Result<Status, Stop> {
-    if out.json {
-        let object = Object::about(&opened.name).object("refusal", object_of(opened, refusal));
-        out.line(&object.finish())?;
-    } else {
-        for line in lines(opened, refusal) {
-            out.line(&line)?;
-        }
-    }
+    out.answer(
+        || lines(opened, refusal).to_vec(),
+        || Object::about(&opened.name).object("refusal", object_of(opened, refusal)),
+    )?;
     Ok(Status::Refused)
 }

@@ -4,14 +4,15 @@
 //! read. So every page of the buffer is copied from the file when it is first touched, by a handler of the fault that this raises,
 //! and the file is not asked for it again. Only what is touched takes memory, and a file may be larger than memory.
 //!
-//! What is written stays in the buffer. The handler notes the pages, since each is a sector of the log's: `write_to` brings them to
-//! the file.
+//! What is written stays in the buffer. The handler notes the pages, since each is a sector of the log's or a header: `write_to`
+//! brings them to the file.
 //!
 //! One thread touches the buffer, and no pointer into it is handed to the operating system, whose own accesses raise no fault.
 use crate::os::{end_when_lost, Lost};
 use std::ffi::{c_int, c_void};
 use std::fs::File;
 use std::io;
+use std::ops::Range;
 use std::os::fd::AsRawFd;
 use std::os::unix::fs::FileExt;
 use std::ptr;
@@ -299,12 +300,20 @@ impl Snapshot {
         Ok(())
     }
 
-    /// Writes each page that was written to the file, which has `length` bytes by now and zeros behind those that it had. `told`:
-    /// up to which offset that is done.
-    pub fn write_to(&self, file: &File, length: u64, mut told: impl FnMut(u64)) -> io::Result<()> {
+    /// Writes each page in a range that was written to the file, which has all of the range by now and zeros behind the bytes that it
+    /// had. The range begins with a page. `told`: up to which offset that is done.
+    pub fn write_to(
+        &self,
+        file: &File,
+        range: Range<u64>,
+        mut told: impl FnMut(u64),
+    ) -> io::Result<()> {
         for page in self.0.in_state(State::Written) {
             let at = page * PAGE;
-            let end = (at + PAGE).min(length as usize).max(at);
+            if !range.contains(&(at as u64)) {
+                continue;
+            }
+            let end = (at + PAGE).min(range.end as usize);
             let bytes = &self.as_ref()[at..end];
             if at < self.0.file_length || bytes.iter().any(|byte| *byte != 0) {
                 file.write_all_at(bytes, at as u64)?;
@@ -411,8 +420,12 @@ mod tests {
         file.write_all_at(&[3; PAGE], 5 * PAGE as u64)
             .expect("written");
         file.set_len(1 << 26).expect("a longer file");
-        snapshot.write_to(&file, 1 << 26, |_| {}).expect("written");
-        let now = fs::read(&path).expect("the file");
+        let read = || fs::read(&path).expect("the file");
+        let write = |range| snapshot.write_to(&file, range, |_| {}).expect("written");
+        write(PAGE as u64..1 << 26);
+        assert_eq!((read()[7], read()[30 * PAGE + 7]), (2, 9), "page 30 alone");
+        write(0..PAGE as u64);
+        let now = read();
         let expected = |page: usize| match page {
             0 => 1,
             5 => 3,

@@ -1,4 +1,5 @@
 //! A VHDX file, opened and locked, in a buffer.
+use crate::json::Object;
 use crate::lock;
 use crate::os::set_words;
 use crate::output::{Output, Status, Stop};
@@ -197,6 +198,27 @@ impl Opened {
 pub struct OnHost {
     pub length: u64,
     pub allocated: u64,
+}
+
+impl OnHost {
+    /// As text, with the capacity.
+    pub fn lines(&self, opened: &Opened) -> [String; 3] {
+        [
+            format!("length of the file: {}", size(self.length)),
+            format!("allocated on the host: {}", size(self.allocated)),
+            format!("capacity: {}", size(opened.capacity)),
+        ]
+    }
+
+    /// As fields of JSON, with what a call answers: the length that the log gives the file, and how many sectors it writes.
+    pub fn fields(&self, object: Object, opened: &Opened, length: u64, sectors: u64) -> Object {
+        object
+            .number("given_length", opened.length)
+            .number("capacity", opened.capacity)
+            .number("length", length)
+            .number("sectors", sectors)
+            .number("allocated", self.allocated)
+    }
 }
 
 /// A file that was attached in memory.

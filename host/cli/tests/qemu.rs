@@ -2,9 +2,9 @@
 //! Skipped where qemu's programs are missing, which a line on standard error says: `install-tools` installs them.
 mod common;
 
-use common::{assert_applied, assert_contents, assert_refused, assert_same_files};
+use common::{assert_applied, assert_closed, assert_contents, assert_refused, assert_same_files};
 use common::{copy, shrunvaki, Answer};
-use shrunvaki_testkit::command::{end, folder, run, Folder, Ran};
+use shrunvaki_testkit::command::{compile_library, end, folder, run, Folder, Ran};
 use shrunvaki_testkit::json::Json;
 use shrunvaki_testkit::random::Random;
 use std::fs;
@@ -214,12 +214,10 @@ struct Killer {
 
 impl Killer {
     fn compile(folder: &Folder) -> Killer {
-        let source = Path::new(env!("CARGO_MANIFEST_DIR")).join("tests/qemu/kill_at_write.c");
-        let library = folder.file("kill_at_write.so");
-        let mut compile = Command::new("cc");
-        compile.args(["-O2", "-shared", "-fPIC", "-o"]);
-        end(compile.args([&library, &source]).arg("-ldl")).with(0);
-        Killer { library }
+        let source = Path::new(env!("CARGO_MANIFEST_DIR")).join("tests/preload/writes.c");
+        Killer {
+            library: compile_library(folder, &source),
+        }
     }
 
     /// Kills it at its n-th write, of which so many bytes are still written. Answers whether there were so many.
@@ -244,8 +242,42 @@ enum State {
     NoSequence,
 }
 
-/// Judges a file that a killed qemu-io left: it is refused as 5, or its log is applied as qemu applies it. What qemu reads then
-/// goes to `raw`.
+/// Closes the log of a file that qemu does not open to read alone. Asserts that it does then, finds nothing to repair and reads what
+/// it reads after its own replay, that it can write to the disk, and that the file is a good one here too.
+fn assert_qemu_goes_on(folder: &Folder, file: &Path, repaired: &Path, raw: &Path) {
+    let check = |file: &Path| qemu_img(&["check", "-f", "vhdx"], &[file]);
+    assert_ne!(check(file).status, Some(0), "qemu sees no pending log");
+    let closed = assert_closed(folder, file, repaired);
+    let (before, reread) = (folder.file("closed-before"), folder.file("closed.raw"));
+    copy(&closed, &before);
+    let checked = check(&closed).with(0).text();
+    assert!(checked.contains("No errors were found"), "{checked}");
+    qemu_img(&["info", "-f", "vhdx"], &[&closed]).with(0);
+    convert(&closed, &reread).with(0);
+    assert_same_files(&[], &reread, raw);
+    assert_same_files(&[], &closed, &before);
+
+    // a block that is not there yet, so that qemu writes to the log again
+    let size = Answer::of(&closed).0.number("facts.disk_size");
+    let (pattern, offset, length) = (0x5a, size - 64 * SECTOR, 32 * SECTOR);
+    end(&mut qemu_io(
+        &[Access::pattern(pattern, offset, length)],
+        &closed,
+    ))
+    .with(0);
+    let mut read = Command::new("qemu-io");
+    read.args(["-r", "-f", "vhdx", "-c"]);
+    read.arg(format!("read -P {pattern} {offset} {length}"));
+    let read = end(read.arg(&closed)).with(0).text();
+    assert!(!read.contains("verification failed"), "{read}");
+    check(&closed).with(0);
+    convert(&closed, &reread).with(0);
+    assert_eq!(Answer::of(&closed).0.text("log"), "none");
+    assert_contents(&closed, &reread);
+}
+
+/// Judges a file that a killed qemu-io left: it is refused as 5, or its log is applied as qemu applies it, and qemu goes on with the
+/// file once it is closed. What qemu reads then goes to `raw`.
 fn judge(folder: &Folder, file: &Path, raw: &Path) -> State {
     let repaired = folder.file("repaired.vhdx");
     copy(file, &repaired);
@@ -260,6 +292,7 @@ fn judge(folder: &Folder, file: &Path, raw: &Path) -> State {
             // qemu has a log to apply exactly where ours has
             assert_eq!(check.text().contains("repaired"), pending, "{check:?}");
             if pending {
+                assert_qemu_goes_on(folder, file, &repaired, raw);
                 State::Pending
             } else {
                 State::Clean

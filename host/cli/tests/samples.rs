@@ -1,7 +1,7 @@
 //! Files that qemu made, and the answers that are known of them: `samples/README.md` says from where.
 mod common;
 
-use common::{assert_applied, assert_contents, assert_refused, assert_same_files};
+use common::{assert_applied, assert_closed, assert_contents, assert_refused, assert_same_files};
 use common::{copy, shrunvaki, Answer};
 use shrunvaki_testkit::command::{end, folder, write, Folder};
 use shrunvaki_testkit::json::Json;
@@ -126,12 +126,25 @@ fn a_log_is_applied_as_qemu_applies_it() {
 }
 
 #[test]
-fn without_a_pending_log_applying_changes_nothing() {
+fn a_closed_log_leaves_what_qemu_leaves() {
+    let folder = folder("samples-close");
+    for name in PENDING {
+        let (file, _) = unpack_disk(&folder, name);
+        let repaired = unpack(&folder, &format!("{name}.repaired"));
+        let closed = assert_closed(&folder, &file, &repaired);
+        assert_contents(&closed, &unpack(&folder, &format!("{name}.raw")));
+    }
+}
+
+#[test]
+fn without_a_pending_log_applying_and_closing_change_nothing() {
     let folder = folder("samples-clean");
     for name in CLEAN {
         let (file, original) = unpack_disk(&folder, name);
-        shrunvaki(&["attach", "--apply"], &file).with(0);
-        assert_same_files(&[], &file, &original);
+        for arguments in [&["attach", "--apply"][..], &["close"]] {
+            shrunvaki(arguments, &file).with(0);
+            assert_same_files(&[], &file, &original);
+        }
     }
 }
 

@@ -1,6 +1,6 @@
 //! Programs run by tests, and temporary folders for their files.
 use std::ffi::OsStr;
-use std::path::PathBuf;
+use std::path::{Path, PathBuf};
 use std::process::{Command, Output};
 
 pub use shrunvaki_scratch::Folder;
@@ -13,6 +13,15 @@ pub fn folder(name: &str) -> Folder {
 /// Writes a file in a folder.
 pub fn write(folder: &Folder, name: &str, bytes: &[u8]) -> PathBuf {
     folder.write(name, bytes).expect("a temporary file")
+}
+
+/// Compiles a C file to a library that can be preloaded into programs.
+pub fn compile_library(folder: &Folder, source: &Path) -> PathBuf {
+    let library = folder.file("preloaded.so");
+    let mut compile = Command::new("cc");
+    compile.args(["-O2", "-shared", "-fPIC", "-o"]);
+    end(compile.arg(&library).arg(source).arg("-ldl")).with(0);
+    library
 }
 
 /// How a program ended and what it wrote.

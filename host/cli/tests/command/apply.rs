@@ -1,11 +1,14 @@
 //! `attach --apply`: what it does to the file, and when it does nothing.
-use crate::sample::{bytes, in_shell, shrunvaki, Sample, PROGRAM};
+use crate::sample::{bytes, in_shell, Sample, PROGRAM};
 use shrunvaki_testkit::pending::{r1, rich, sample_file, small_blocks};
 use std::fs::File;
 use std::io::{BufRead, BufReader};
 use std::process::{Child, Command, Stdio};
 use std::thread;
 use std::time::Duration;
+
+/// The commands that change a file.
+const WRITERS: [(&str, &[&str]); 2] = [("attach", &["--apply"]), ("close", &[])];
 
 /// The small disk's file with its log applied.
 fn applied() -> Vec<u8> {
@@ -29,7 +32,7 @@ fn it_does_what_the_log_says() {
             pending.replay.count()
         );
         assert!(ran.text().starts_with(&announced), "{ran:?}");
-        let log = "\nlog: applied just now; it stays in the file until the log is closed\n";
+        let log = "\nlog: applied just now; it stays in the file until shrunvaki close ends it\n";
         assert!(ran.text().contains(log), "{ran:?}");
         assert!(
             sample.now() == applied,
@@ -74,15 +77,15 @@ fn it_touches_nothing_that_is_refused() {
 
 #[test]
 fn a_limit_for_the_size_of_files_is_an_error() {
-    let sample = Sample::pending();
-    // in units of 512 bytes: more than the file has, less than the log makes it
-    let ran = in_shell(
-        "ulimit -f 9000; exec \"$0\" \"$@\"",
-        &["attach", "--apply", &sample.path],
-    );
-    assert!(ran.with(2).errors.contains("cannot grow to 5 MiB"));
-    sample.assert_unchanged();
-    sample.run("attach", &["--apply"]).with(0);
+    for (command, more) in WRITERS {
+        let sample = Sample::pending();
+        // in units of 512 bytes: more than the file has, less than the log makes it
+        let limited = "ulimit -f 9000; exec \"$0\" \"$@\"";
+        let ran = in_shell(limited, &[&[command, &sample.path], more].concat());
+        assert!(ran.with(2).errors.contains("cannot grow to 5 MiB"));
+        sample.assert_unchanged();
+        sample.run(command, more).with(0);
+    }
 }
 
 #[test]
@@ -109,11 +112,13 @@ fn a_lock_of_another_keeps_it_out_and_readers_not() {
     file.lock_shared().expect("a shared lock");
     let ran = sample.run("attach", &[]).with(0);
     assert!(ran.errors.is_empty(), "{ran:?}");
-    let ran = sample.run("attach", &["--apply"]).with(2);
-    assert!(
-        ran.errors.contains(locked) && ran.errors.contains("--wait"),
-        "{ran:?}"
-    );
+    for (command, more) in WRITERS {
+        let ran = sample.run(command, more).with(2);
+        assert!(
+            ran.errors.contains(locked) && ran.errors.contains("--wait"),
+            "{ran:?}"
+        );
+    }
     file.lock().expect("an exclusive lock");
     for (command, more) in [("attach", &[][..]), ("lookup", &["0"]), ("cat", &[])] {
         let ran = sample.run(command, more).with(0);
@@ -179,9 +184,11 @@ fn it_warns_where_a_virtual_machine_writes() {
     for (byte, warned) in [(100, false), (101, true)] {
         let sample = Sample::pending();
         let mut holder = holding(&sample.path, byte);
-        let ran = shrunvaki(&["attach", "--apply", &sample.path]).with(0);
-        let told = ran.errors.contains("has it open for writing");
-        assert_eq!(told, warned, "{ran:?}");
+        for (command, more) in WRITERS {
+            let ran = sample.run(command, more).with(0);
+            let told = ran.errors.contains("has it open for writing");
+            assert_eq!(told, warned, "{ran:?}");
+        }
         drop(holder.stdin.take());
         holder.wait().expect("its end");
     }

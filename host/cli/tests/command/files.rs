@@ -35,6 +35,7 @@ fn files_that_cannot_be_read() {
         for words in [
             &["attach", path][..],
             &["attach", "--apply", path],
+            &["close", path],
             &["map", path],
             &["cat", path],
         ] {
@@ -61,8 +62,10 @@ fn a_file_that_may_not_be_read_or_written() {
     let ask = |words: &[&str]| as_nobody(Command::new(PROGRAM).args(words));
     allow(0o444);
     ask(&["attach", file]).with(0);
-    let ran = ask(&["attach", "--apply", file]).with(2);
-    assert!(ran.errors.contains("Permission denied"), "{ran:?}");
+    for words in [&["attach", "--apply", file][..], &["close", file]] {
+        let ran = ask(words).with(2);
+        assert!(ran.errors.contains("Permission denied"), "{ran:?}");
+    }
     allow(0o000);
     let ran = ask(&["attach", file]).with(2);
     assert!(ran.errors.contains("Permission denied"), "{ran:?}");

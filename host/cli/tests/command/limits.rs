@@ -19,9 +19,10 @@ fn hostile(times: usize) -> Sample {
 #[test]
 fn eight_billion_sectors_are_not_written() {
     let sample = hostile(65536);
-    let commands: [&[&str]; 6] = [
+    let commands: [&[&str]; 7] = [
         &["attach"],
         &["attach", "--apply"],
+        &["close"],
         &["lookup", "0"],
         &["map"],
         &["parent"],
@@ -58,6 +59,7 @@ fn the_limit_is_the_users() {
     sample
         .run("attach", &["--apply", "--max-sectors=513"])
         .with(4);
+    sample.run("close", &["--max-sectors=513"]).with(4);
     sample.assert_unchanged();
     sample
         .run("attach", &["--apply", "--max-sectors=514"])
@@ -65,6 +67,8 @@ fn the_limit_is_the_users() {
     // it has grown
     sample.run("attach", &["--max-sectors", "258"]).with(0);
     sample.run("attach", &["--max-sectors", "257"]).with(4);
+    sample.run("close", &["--max-sectors", "257"]).with(4);
+    sample.run("close", &["--max-sectors", "258"]).with(0);
     // a refusal comes first, whatever the limit is
     sample
         .run("attach", &["--max-sectors", "0", "--capacity", "0"])

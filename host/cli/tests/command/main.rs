@@ -2,6 +2,8 @@
 mod apply;
 mod attach;
 mod cat;
+mod close;
+mod crash;
 mod files;
 mod limits;
 mod lookup;

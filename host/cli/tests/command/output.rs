@@ -13,7 +13,11 @@ use std::time::Duration;
 fn output_that_cannot_be_written() {
     // what cannot be announced is not done
     let sample = Sample::pending();
-    for words in [&["demo"][..], &["attach", "--apply", &sample.path]] {
+    for words in [
+        &["demo"][..],
+        &["attach", "--apply", &sample.path],
+        &["close", &sample.path],
+    ] {
         let full = File::options().write(true).open("/dev/full");
         let full = full.expect("the device that is always full");
         let ran = end(Command::new(PROGRAM).args(words).stdout(full)).with(2);
@@ -29,6 +33,7 @@ fn a_closed_output_is_an_error() {
     for words in [
         &["attach", file][..],
         &["attach", "--apply", file],
+        &["close", file],
         &["attach", "--json", file],
         &["map", file],
         &["cat", file],
@@ -38,7 +43,7 @@ fn a_closed_output_is_an_error() {
         let ran = in_shell("exec \"$0\" \"$@\" >&-", words).with(2);
         assert!(ran.errors.contains("standard output is closed"), "{ran:?}");
         // nowhere is somewhere
-        if !words.contains(&"--apply") {
+        if !words.contains(&"--apply") && !words.contains(&"close") {
             in_shell("exec \"$0\" \"$@\" > /dev/null", words).with(0);
         }
     }

@@ -6,7 +6,8 @@ use shrunvaki_testkit::json::Json;
 fn misuse() {
     let sample = Sample::pending();
     let file = sample.path.as_str();
-    let cases: [&[&str]; 24] = [
+    let guid = "00112233-4455-6677-8899-aabbccddeeff";
+    let cases: [&[&str]; 37] = [
         &[],
         &["attack", file],
         &["attach"],
@@ -31,6 +32,19 @@ fn misuse() {
         &["demo", file],
         &["demo", "--capacity", "9"],
         &["help", "me"],
+        &["close"],
+        &["close", file, "more"],
+        &["close", file, "--apply"],
+        &["close", file, "--force"],
+        &["close", file, "--identifier"],
+        &["close", file, "--identifier="],
+        &["close", file, "--identifier", "0"],
+        &["close", file, "--identifier", &guid[1..]],
+        &["close", file, "--identifier", &guid.replace('-', "")],
+        &["close", file, "--identifier", &guid.replace('f', "g")],
+        &["close", file, "--identifier", &format!("{{{guid}")],
+        &["attach", file, "--identifier", guid],
+        &["attach", file, "--apply", "--identifier", guid],
     ];
     for words in cases {
         let ran = shrunvaki(words).with(2);
@@ -51,6 +65,7 @@ fn help_and_version() {
         for command in [
             "attach",
             "--apply",
+            "close",
             "lookup",
             "map",
             "parent",
@@ -62,11 +77,15 @@ fn help_and_version() {
             assert!(text.contains(command), "{words:?}: {command}");
         }
     }
-    for command in ["attach", "lookup", "map", "parent", "cat", "demo"] {
+    for command in ["attach", "close", "lookup", "map", "parent", "cat", "demo"] {
         let text = shrunvaki(&[command, "--help"]).with(0).text();
         assert!(text.starts_with(&format!("shrunvaki {command}")), "{text}");
         assert_eq!(shrunvaki(&["help", command]).with(0).text(), text);
         assert!(text.lines().all(|line| line.len() <= 80), "{text}");
+    }
+    let close = shrunvaki(&["close", "--help"]).text();
+    for words in ["--identifier", "--wait", "9 to 15", "23", "run again"] {
+        assert!(close.contains(words), "{words}: {close}");
     }
     assert_eq!(
         shrunvaki(&["--version"]).with(0).text(),
@@ -80,7 +99,7 @@ fn the_demonstration() {
     for line in [
         "size to charge: 64 MiB (67,108,864 bytes)",
         "log: pending, 258 sectors to write; the file grows to 5 MiB (5,242,880 bytes)",
-        "log: applied just now; it stays in the file until the log is closed",
+        "log: applied just now; it stays in the file until shrunvaki close ends it",
         "The same to a copy that saw no crash. The two files are equal, byte for byte.",
         "sector 0: in the file at 4194304",
         "The first bytes of block 0",

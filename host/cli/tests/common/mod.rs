@@ -1,7 +1,7 @@
 //! The command on VHDX files that qemu made: what `samples.rs` and `qemu.rs` share.
 use shrunvaki_testkit::command::{end, Folder, Ran};
 use shrunvaki_testkit::json::Json;
-use std::path::Path;
+use std::path::{Path, PathBuf};
 use std::process::{Command, Stdio};
 
 const SHRUNVAKI: &str = env!("CARGO_BIN_EXE_shrunvaki");
@@ -81,13 +81,30 @@ pub fn assert_applied(folder: &Folder, pending: &Path, by_qemu: &Path) {
     assert_same_files(&[], &twice, &once);
 }
 
+/// Closes a file's log in a copy of it, which is the answer. Asserts that past the first MiB it is then qemu's file with the log
+/// applied, that no log is pending any more, and that closing again changes nothing.
+#[track_caller]
+pub fn assert_closed(folder: &Folder, pending: &Path, by_qemu: &Path) -> PathBuf {
+    let (once, twice) = (folder.file("closed"), folder.file("closed-twice"));
+    copy(pending, &once);
+    let said = shrunvaki(&["close"], &once).with(0).text();
+    assert!(said.contains("\nlog: closed just now, "), "{said}");
+    assert_same_files(&[FIRST_MIB], &once, by_qemu);
+    assert_eq!(Answer::of(&once).0.text("log"), "none");
+    copy(&once, &twice);
+    let said = shrunvaki(&["close"], &twice).with(0).text();
+    assert!(said.contains("\nlog: none; "), "{said}");
+    assert_same_files(&[], &twice, &once);
+    once
+}
+
 /// That a file is refused by this number whatever is asked of it, and is not changed.
 #[track_caller]
 pub fn assert_refused(folder: &Folder, file: &Path, number: u64) {
     let asked = folder.file("refused");
     copy(file, &asked);
     assert_eq!(Answer::of(&asked).refusal(), Some(number));
-    for arguments in [&["attach", "--apply"][..], &["map"], &["cat"]] {
+    for arguments in [&["attach", "--apply"][..], &["close"], &["map"], &["cat"]] {
         shrunvaki(arguments, &asked).with(1);
     }
     assert_same_files(&[], &asked, file);

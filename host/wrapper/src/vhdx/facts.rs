@@ -1,4 +1,5 @@
 //! What attach says of a disk.
+use super::identifier::identifier_text;
 use super::raw::Slots;
 
 /// A part of a file.
@@ -86,14 +87,8 @@ impl Facts {
             .unwrap_or(0)
     }
 
-    /// The disk identifier as it is written: five groups, the first three of them stored with their bytes reversed.
+    /// The disk identifier as it is written.
     pub fn disk_id_text(&self) -> String {
-        let id = self.disk_id;
-        let first = u32::from_le_bytes([id[0], id[1], id[2], id[3]]);
-        let second = u16::from_le_bytes([id[4], id[5]]);
-        let third = u16::from_le_bytes([id[6], id[7]]);
-        let fourth = u16::from_be_bytes([id[8], id[9]]);
-        let last: String = id[10..].iter().map(|byte| format!("{byte:02x}")).collect();
-        format!("{first:08x}-{second:04x}-{third:04x}-{fourth:04x}-{last}")
+        identifier_text(&self.disk_id)
     }
 }
