@@ -5,9 +5,9 @@
 //! be on the disk before the sectors that the log holds.
 //!
 //! A process that is killed before the header's write leaves the old header current and the log pending, and the sectors that the log
-//! names with old, new or torn bytes: closing again does all of it anew. After that write all is done. The theorem `ClosedSafely`
-//! covers each such state. It is over lists of closes that are interrupted, the first at the last sector, the next at the one before
-//! and so on: these leave any bytes in every named sector, the old ones among them.
+//! names with old, new or torn bytes: closing again does all of it anew. After that write all is done. The theorem `CrashSafeClose`
+//! covers each such state, since it is over every list of interrupted closes: a list whose first close is interrupted at the last
+//! sector, the next at the one before, and so on, leaves any bytes in every named sector, the old ones among them.
 use crate::json::Object;
 use crate::output::{Output, Status, Stop};
 use crate::progress::timed;
@@ -27,6 +27,9 @@ pub type Identifier = [u8; 16];
 /// Where the two headers are, and how long each is.
 const SLOTS: [usize; 2] = [65_536, 131_072];
 const SLOT: usize = 4096;
+
+/// The refusal of closing alone.
+const CANNOT_BE_CLOSED: u64 = 23;
 
 /// Both headers lie below this offset, and no sector that a log may write does: refusal 7.
 const FIRST_MIB: u64 = 1 << 20;
@@ -81,11 +84,16 @@ fn perform(
     identifier: &Identifier,
     tell: impl FnOnce(&Plan) -> Result<(), Stop>,
 ) -> Result<Log, Stop> {
-    let image = opened.image()?;
+    let mut image = opened.image()?;
     let plan = match image.plan() {
         Ok(plan) => plan,
         Err(refusal) => return Ok(Log::Refused(refusal)),
     };
+    // 23 comes before the limits too; a step of a number that no log has is refused by it before 21, and nothing is done
+    let early = image.close_step(identifier, u64::MAX).err();
+    if let Some(refusal) = early.filter(|refusal| refusal.number() == CANNOT_BE_CLOSED) {
+        return Ok(Log::Refused(refusal));
+    }
     opened.allow(&plan)?;
     let judged = headers(image.bytes());
     // past the file's end the snapshot is zero, as the file will be

@@ -165,6 +165,8 @@ fn the_greatest_sequence_number_is_refused_where_a_log_is_pending() {
     pending.image.header(HEADERS[1], u64::MAX, GUID);
     let sample = Sample::new(bytes(&pending));
     assert_refused(&sample, &[], 23);
+    // what is refused asks for no work
+    assert_refused(&sample, &["--max-sectors", "1"], 23);
     // 8 comes first, and the log can be applied
     assert_refused(&sample, &["--capacity", "5242879"], 8);
     sample.run("attach", &[]).with(0);

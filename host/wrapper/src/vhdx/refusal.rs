@@ -90,7 +90,7 @@ const TEXTS: [(&str, &str); 23] = [
     ),
     (
         "the log's work has no such step",
-        "Steps go from 0 to the count that attach answers.",
+        "Steps go from 0 to the count that attach answers; closing has one more, the header's.",
     ),
     (
         "the step's sector ends past the given length",
