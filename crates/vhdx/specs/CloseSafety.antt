@@ -2,6 +2,9 @@
 -- each run to its end, refused or interrupted, one undisturbed close leaves what closing the original leaves, and nothing but the named
 -- sectors and one header slot was touched on the way. The list, the order of its steps and the premise that a half-written header is
 -- not valid are `Calls` of vhdx_close. `CrashSafeClose` is the claim, proved in proofs/CloseSafety.antt.
+--
+-- That a close which really stops leaves one of these states rests on what CrashSafety.antt says of attach, and on one thing more that
+-- the code shows: the header is put together in an array of its own, and its write stores only inside its slot (`vhdx_rewrite`, `write`).
 -- Assumes nothing.
 use mathlib.Core.List.{List}
 use mathlib.Core.Path.{_≡_}

@@ -1,4 +1,4 @@
-// The steps of the log's work. `grow` and `sector::write` are the only functions that change a buffer: growth with zeros,
+// The steps of the log's work. `grow` and `sector::write` are the only functions here that change a buffer: growth with zeros,
 // and one sector a call.
 // Its modules: `store`, bytes into a buffer; `sector`, the write of one sector.
 mod sector;
