@@ -1,4 +1,5 @@
-//! `attach --apply`: what it does to the file, and when it does nothing.
+//! `attach --apply`: what it does to the file, and when it does nothing; and what `close` has in common with it.
+use crate::close::{closed, STORED, WRITTEN};
 use crate::sample::{bytes, in_shell, Sample, PROGRAM};
 use shrunvaki_testkit::pending::{r1, rich, sample_file, small_blocks};
 use std::fs::File;
@@ -8,13 +9,24 @@ use std::thread;
 use std::time::Duration;
 
 /// The commands that change a file.
-const WRITERS: [(&str, &[&str]); 2] = [("attach", &["--apply"]), ("close", &[])];
+const WRITERS: [(&str, &[&str]); 2] = [
+    ("attach", &["--apply"]),
+    ("close", &["--identifier", WRITTEN]),
+];
 
 /// The small disk's file with its log applied.
 fn applied() -> Vec<u8> {
     let (mut bytes, length) = sample_file().applied();
     bytes.truncate(length as usize);
     bytes
+}
+
+/// The same as one of them leaves it.
+fn written_by(command: &str) -> Vec<u8> {
+    match command {
+        "close" => closed(&sample_file(), STORED),
+        _ => applied(),
+    }
 }
 
 #[test]
@@ -90,18 +102,21 @@ fn a_limit_for_the_size_of_files_is_an_error() {
 
 #[test]
 fn it_does_what_it_announced_though_nobody_listens() {
-    let sample = Sample::pending();
-    let mut child = Command::new(PROGRAM)
-        .args(["attach", "--apply", &sample.path])
-        .stdout(Stdio::piped())
-        .stderr(Stdio::piped())
-        .spawn()
-        .expect("the command");
-    drop(child.stdout.take());
-    let ended = child.wait_with_output().expect("its end");
-    assert_eq!(ended.status.code(), Some(0));
-    assert!(ended.stderr.is_empty(), "{:?}", ended.stderr);
-    assert!(sample.now() == applied());
+    for (command, more) in WRITERS {
+        let sample = Sample::pending();
+        let mut child = Command::new(PROGRAM)
+            .args([command, &sample.path])
+            .args(more)
+            .stdout(Stdio::piped())
+            .stderr(Stdio::piped())
+            .spawn()
+            .expect("the command");
+        drop(child.stdout.take());
+        let ended = child.wait_with_output().expect("its end");
+        assert_eq!(ended.status.code(), Some(0));
+        assert!(ended.stderr.is_empty(), "{:?}", ended.stderr);
+        assert!(sample.now() == written_by(command), "{command}");
+    }
 }
 
 #[test]
@@ -136,23 +151,24 @@ fn a_lock_of_another_keeps_it_out_and_readers_not() {
 
 #[test]
 fn it_waits_for_a_lock_where_that_is_asked_for() {
-    let sample = Sample::pending();
-    let file = File::open(&sample.path).expect("the file");
-    file.lock().expect("an exclusive lock");
-    let mut child = Command::new(PROGRAM)
-        .args(["attach", "--apply", "--wait", &sample.path])
-        .stdout(Stdio::null())
-        .spawn()
-        .expect("the command");
-    thread::sleep(Duration::from_millis(300));
-    assert!(
-        child.try_wait().expect("its state").is_none(),
-        "it has not waited"
-    );
-    sample.assert_unchanged();
-    file.unlock().expect("no lock");
-    assert_eq!(child.wait().expect("its end").code(), Some(0));
-    assert!(sample.now() == applied());
+    for (command, more) in WRITERS {
+        let sample = Sample::pending();
+        let file = File::open(&sample.path).expect("the file");
+        file.lock().expect("an exclusive lock");
+        let mut child = Command::new(PROGRAM)
+            .args([command, "--wait", &sample.path])
+            .args(more)
+            .stdout(Stdio::null())
+            .spawn()
+            .expect("the command");
+        thread::sleep(Duration::from_millis(300));
+        let state = child.try_wait().expect("its state");
+        assert!(state.is_none(), "{command} has not waited");
+        sample.assert_unchanged();
+        file.unlock().expect("no lock");
+        assert_eq!(child.wait().expect("its end").code(), Some(0));
+        assert!(sample.now() == written_by(command), "{command}");
+    }
 }
 
 /// Another process that holds a lock on a byte of the file, as qemu does, until its input ends.

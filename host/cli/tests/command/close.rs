@@ -1,4 +1,5 @@
-//! `close`: what it does to the file and says of it, and when it does nothing. Crashes are in `crash.rs`.
+//! `close`: what it does to the file and says of it, and when it does nothing. Crashes are in `crash.rs`, what it has in common with
+//! `attach --apply` in `apply.rs`.
 use crate::sample::{bytes, Sample, PROGRAM};
 use shrunvaki_testkit::image::{put64, seal, Entry, Image, GUID, HEADERS, MIB, SECTOR};
 use shrunvaki_testkit::json::Json;
@@ -216,41 +217,6 @@ fn without_an_identifier_a_random_one_is_drawn_and_printed() {
         identifier
     });
     assert!(drawn[0] != drawn[1] && drawn[1] != drawn[2], "{drawn:?}");
-}
-
-#[test]
-fn it_does_what_it_announced_though_nobody_listens() {
-    let sample = Sample::pending();
-    let mut child = Command::new(PROGRAM)
-        .args(["close", &sample.path, "--identifier", WRITTEN])
-        .stdout(Stdio::piped())
-        .stderr(Stdio::piped())
-        .spawn()
-        .expect("the command");
-    drop(child.stdout.take());
-    let ended = child.wait_with_output().expect("its end");
-    assert_eq!(ended.status.code(), Some(0));
-    assert!(ended.stderr.is_empty(), "{:?}", ended.stderr);
-    assert!(sample.now() == closed(&sample_file(), STORED));
-}
-
-#[test]
-fn it_waits_for_a_lock_where_that_is_asked_for() {
-    let sample = Sample::pending();
-    let file = File::open(&sample.path).expect("the file");
-    file.lock().expect("an exclusive lock");
-    let mut child = Command::new(PROGRAM)
-        .args(["close", "--wait", &sample.path, "--identifier", WRITTEN])
-        .stdout(Stdio::null())
-        .spawn()
-        .expect("the command");
-    thread::sleep(Duration::from_millis(300));
-    let state = child.try_wait().expect("its state");
-    assert!(state.is_none(), "it has not waited");
-    sample.assert_unchanged();
-    file.unlock().expect("no lock");
-    assert_eq!(child.wait().expect("its end").code(), Some(0));
-    assert!(sample.now() == closed(&sample_file(), STORED));
 }
 
 /// Runs it with a full pipe as its output, so that it waits with what it announces; then changes bytes of the file and reads on.
