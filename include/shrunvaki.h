@@ -7,7 +7,7 @@
  * with the buffer, and no pointer is null. All else may be anything, every number and every byte: a call answers, or refuses by a
  * number.
  *
- * A file: read it into a buffer with room for what its log grows it by, call shrunvaki_vhdx_attach, and go on with the length in
+ * A file: read it into a buffer with space for what its log grows it by, call shrunvaki_vhdx_attach, and go on with the length in
  * its answer. The log stays in the file and is not marked as applied: attaching again does the same work and gives the same, until
  * shrunvaki_vhdx_close closes the log. examples/attach.c attaches. Link target/staticlib/libcapi.a, which `rt staticlib capi` writes.
  */

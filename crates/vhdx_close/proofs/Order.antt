@@ -1,4 +1,4 @@
--- A log that is closed by calls that may be cut: either the header is not yet written, and the steps below the next one in order are
+-- A log that is closed by calls that may be interrupted: either the header is not yet written, and the steps below the next one in order are
 -- done (`Open`); or it is, and the file is what an undisturbed close leaves (`Closed`).
 -- Assumes nothing.
 use mathlib.Core.Path.{_≡_, refl, sym, ap, subst, _∙_}
@@ -10,7 +10,7 @@ use Prim.Native.Nat.{ℕ, zero, suc, _+_, _-_, _≤_, _<_}
 use native.Mathlib.Nat.{add-zero, add-suc}
 use native.Mathlib.Omega.{arith}
 use lib.Dec.{eqb, ltb}
-use lib.ListN.{length, take, drop, getD, getElem?, length-append, drop-of-length-le}
+use lib.ListN.{length, take, drop, getD, getElem?, length-append, drop-of-length-le, List·getD-append}
 use lib.Seq.{drop-cons, take-suc, take-all, drop-append-seam, getD-append-seam}
 use borrow.Author.Tests.{le-leb}
 use Rattle.decision.specs.Refusal.{Outcome, refused, answered, check}
@@ -77,11 +77,6 @@ all-at P [] d j h a = absurd (omega arith)
 all-at P (t ∷ ts) d zero h a = a .0
 all-at P (t ∷ ts) d (suc j) h a = all-at P ts d j (omega arith) (a .1)
 
-getD-left : (ts us : List Sector) (d : Sector) (j : ℕ) → j < length ts → getD (ts ++ us) j d ≡ getD ts j d
-getD-left [] us d j h = absurd (omega arith)
-getD-left (t ∷ ts) us d zero h = refl
-getD-left (t ∷ ts) us d (suc j) h = getD-left ts us d j (omega arith)
-
 -- a refused step leaves the file
 pub refused-same : (identifier : List ℕ) (j x : ℕ) (f : File) → chosen (closePlan identifier f) j (f .size) ≡ refused x → afterCloseStep identifier j f ≡ f
 unfolding afterCloseStep
@@ -104,7 +99,7 @@ module _ (identifier : List ℕ) (sixteen : length identifier ≡ 16) (o : File)
   R : Reads (Kept (extentOf h)) o m ss
   R = reads o h k e
 
-  other : ℕ
+  abbrev other : ℕ
   other = otherSlot (h .slot)
 
   -- the header's write, and all that closing writes
@@ -152,7 +147,7 @@ module _ (identifier : List ℕ) (sixteen : length identifier ≡ 16) (o : File)
   mild-good (write s) q = (q .0, λ i x. named-left ss c i (q .1 i x))
 
   mild-slot : (s : Step) (f g : File) → Mild s → Inv o m ts f → Torn s f g → slotIn g other ≡ slotIn f other
-  unfolding Mild Own other
+  unfolding Mild Own
   mild-slot (grow n) f g q v t =
       let low = slots-low (slots-of identifier o h k e) in
       slot-same (f .buffer) (g .buffer) (otherSlot (h .slot)) (t .capacity) (low .3) (omega (arith, holds-MiB, v .capacity))
@@ -204,7 +199,7 @@ module _ (identifier : List ℕ) (sixteen : length identifier ≡ 16) (o : File)
 
   nth-own : (j : ℕ) → j < length ss → Own (nth j)
   unfolding nth
-  nth-own j b = rw (getD-left ss (c ∷ []) c j b) (all-at Own ss c j b own)
+  nth-own j b = rw (List·getD-append ss (c ∷ []) c j b) (all-at Own ss c j b own)
 
   nth-last : nth (length ss) ≡ c
   unfolding nth
@@ -290,7 +285,6 @@ module _ (identifier : List ℕ) (sixteen : length identifier ≡ 16) (o : File)
   T-last = sym target-all ∙ target-next (length ss) (omega arith) ∙ ap (λ (s : Sector). run (write s) (target (length ss))) nth-last
 
   T-slot : slotIn T other ≡ closedHeader (slotIn o (h .slot)) identifier
-  unfolding other
   T-slot =
       let low = slots-low (slots-of identifier o h k e) in
       let b : MiB ≤ length (T .buffer) = omega (arith, holds-MiB, T-inv .capacity) in
@@ -300,16 +294,12 @@ module _ (identifier : List ℕ) (sixteen : length identifier ≡ 16) (o : File)
       ∙ ap (λ (n : ℕ). take n (drop (c .offset) (put (target (length ss) .buffer) (c .offset) (c .bytes)))) (sym c-long)
       ∙ part-in (target (length ss) .buffer) (c .offset) (c .bytes) fits
 
-  T-slot-at : slotIn T (otherSlot (h .slot)) ≡ closedHeader (slotIn o (h .slot)) identifier
-  unfolding other
-  T-slot-at = T-slot
-
   closed-full : (f : File) → Closed f → f .size ≡ m
   unfolding Closed
   closed-full f a = a .size-f
 
   closed-slot : (f : File) → Closed f → slotIn f other ≡ closedHeader (slotIn o (h .slot)) identifier
-  unfolding Closed other
+  unfolding Closed
   closed-slot f a =
       let low = slots-low (slots-of identifier o h k e) in
       slot-same (T .buffer) (f .buffer) (otherSlot (h .slot)) (a .capacity) (low .3) (omega (arith, holds-MiB, T-inv .capacity))
@@ -324,16 +314,15 @@ module _ (identifier : List ℕ) (sixteen : length identifier ≡ 16) (o : File)
     plan-is = rw (k, e, log, raisable)
 
     open-current : (n : ℕ) (f : File) → Open n f → currentHeader (f .buffer) (f .size) ≡ Current h
-    unfolding Dormant other
+    unfolding Dormant
     open-current n f q = still-current identifier o h k e f (q .inv .capacity) (q .inv .longer) (q .inv .within) (untouched f (q .inv)) (q .dormant)
 
     open-plan : (n : ℕ) (f : File) → Open n f → closePlan identifier f ≡ apply m ts
-    unfolding Dormant other
+    unfolding Dormant
     open-plan n f q = close-again identifier o h k e f (q .inv .capacity) (q .inv .longer) (q .inv .within) (untouched f (q .inv)) (q .dormant) ∙ plan-is
 
     module _ (named-bytes : Bytes identifier) (bytes : Bytes (o .buffer)) where
       closed-plan : (f : File) → Closed f → closePlan identifier f ≡ apply m []
-      unfolding other
       closed-plan f q =
           let v = closed-inv f q in
           close-done identifier o h k e f (v .capacity) (v .longer) (v .within) (untouched f v) sixteen named-bytes bytes raisable (closed-full f q) (closed-slot f q)
@@ -344,7 +333,7 @@ module _ (identifier : List ℕ) (sixteen : length identifier ≡ 16) (o : File)
   unfolding T
   T-size = all-done (R .grows) (R .fits) ends (at-first o m ts (R .grows) (R .fits)) .size-g
 
-  -- what a cut may leave in the slot
+  -- what an interruption may leave in the slot
   Settled : File → Type 0
   Settled g = validHeader (slotIn g other) ≡ true → (slotIn g other ≡ slotIn o other) ⊎ (slotIn g other ≡ closedHeader (slotIn o (h .slot)) identifier)
 
@@ -382,7 +371,7 @@ module _ (identifier : List ℕ) (sixteen : length identifier ≡ 16) (o : File)
     torn-inv = keeps o m ts (R .grows) (R .fits) (write c) c-good (q .inv) t
 
     torn-done : slotIn g other ≡ closedHeader (slotIn o (h .slot)) identifier → Closed g
-    unfolding Closed other
+    unfolding Closed
     torn-done w =
         let low = slots-low (slots-of identifier o h k e) in
         let bg : MiB ≤ length (g .buffer) = omega (arith, holds-MiB, torn-inv .capacity) in
@@ -484,7 +473,7 @@ module _ (identifier : List ℕ) (sixteen : length identifier ≡ 16) (o : File)
       nth-fits : end (getD ts j c) ≤ m
       nth-fits = nth-ends j b
 
-  -- ---- a close that is cut
+  -- ---- a close that is interrupted
 
   writes-ran : (b : List Sector) (n : ℕ) (f g G : File) → All Own b → Open n f → Agree m (b ++ (c ∷ [])) f G → runs (map write (b ++ (c ∷ []))) G ≡ T
       → Settled g → Ran (map write (b ++ (c ∷ []))) f g → Open zero g ⊎ Closed g
@@ -517,7 +506,7 @@ module _ (identifier : List ℕ) (sixteen : length identifier ≡ 16) (o : File)
       x)
       (ran-cons r)
 
-  -- a step that is cut
+  -- a step that is interrupted
   single-ran : (n j : ℕ) (f g : File) → j ≤ n → Open n f → Settled g → Ran (single (apply m ts) j (f .size)) f g → Open zero g ⊎ Closed g
   single-ran n zero f g b q w r =
       ⊎-elim
@@ -586,7 +575,7 @@ module _ (identifier : List ℕ) (sixteen : length identifier ≡ 16) (o : File)
 
   module _ (log : eqb (number (h .«log_guid»)) 0 ≡ false) (raisable : ltb (h .«sequence_number») greatest ≡ true) (named-bytes : Bytes identifier) (bytes : Bytes (o .buffer)) where
     settled-by : (n : ℕ) (f g : File) → Open n f → WholeIfValid identifier f g → Settled g
-    unfolding Settled Dormant other
+    unfolding Settled Dormant
     settled-by n f g q w v =
         let u = subst (λ (x : Answer). WholeBy x identifier f g) (open-current log raisable n f q) w in
         ⊎-elim
@@ -662,7 +651,4 @@ module _ (identifier : List ℕ) (sixteen : length identifier ≡ 16) (o : File)
     -- the log is gone
     pub for-good : HasNoLog (afterClose identifier o)
     unfolding Closed
-    for-good = rw whole-T (gone identifier o h k e T (T-inv .capacity) (T-inv .longer) (T-inv .within) (untouched T T-inv) sixteen named-bytes bytes raisable T-size T-slot′)
-      where
-        T-slot′ : slotIn T (otherSlot (h .slot)) ≡ closedHeader (slotIn o (h .slot)) identifier
-        T-slot′ = T-slot-at
+    for-good = rw whole-T (gone identifier o h k e T (T-inv .capacity) (T-inv .longer) (T-inv .within) (untouched T T-inv) sixteen named-bytes bytes raisable T-size T-slot)

@@ -14,7 +14,7 @@ ghost use Rattle.vhdx_close.specs.Close.{closePlan, afterClose, closeAns
 ghost use Rattle.vhdx_close.specs.Deciding.{endingOf, Decided, Doable};
 
 pub struct Closed {
-    // document 01's number, or 0
+    // the refusal's number, or 0
     pub refusal: u64,
     // of the image as closing leaves it
     pub length: u64,
@@ -32,7 +32,7 @@ pub struct Job {
 }
 
 pub enum Task {
-    // document 01's number
+    // the refusal's number
     Refused(u64),
     Do(Job),
 }

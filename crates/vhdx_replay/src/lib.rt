@@ -23,7 +23,7 @@ ghost use Rattle.vhdx_replay.specs.Planned.{logExtent, Planned};
 
 // What a call that does one step answers.
 pub struct Stepped {
-    // document 01's number, or 0
+    // the refusal's number, or 0
     pub refusal: u64,
     // of the image as the step leaves it
     pub length: u64,

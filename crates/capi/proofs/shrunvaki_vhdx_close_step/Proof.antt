@@ -1,4 +1,4 @@
--- `capi::shrunvaki_vhdx_close_step` meets its contract: what close_step answers, in its slots.
+-- `capi::shrunvaki_vhdx_close_step` meets its contract: what a step of close answers, in its slots.
 -- Assumes nothing.
 use mathlib.Core.Path.{ap}
 use Rattle.vhdx_replay.specs.declared.Stepped.{Stepped}
