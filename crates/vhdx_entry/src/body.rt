@@ -38,7 +38,7 @@ fn data_descriptors(log: &[u8], pos: RingPos, number: u64, count: usize) -> Tall
 }
 
 // One more where the descriptor is a data descriptor.
-fn counted(d: &[u8], so_far: usize) -> usize
+pub fn counted(d: &[u8], so_far: usize) -> usize
     requires { ⌜ (length (now d) ≡ 32) × («so_far» < 4294967296) ⌝ }
     ensures { λ r. ⌜ r ≡ «so_far» + cond (isData (now (d .entry))) 1 0 ⌝ }
 {
@@ -89,7 +89,7 @@ fn data_sectors(log: &[u8], pos: RingPos, number: u64, from: usize, count: usize
 // "data" as a little-endian number.
 const DATA: u32 = 0x61746164;
 
-fn is_data_sector(s: &[u8], number: u64) -> bool
+pub fn is_data_sector(s: &[u8], number: u64) -> bool
     requires { ⌜ length (now s) ≡ 4096 ⌝ }
     ensures { λ r. ⌜ r ≡ dataSectorRule number (now (s .entry)) ⌝ }
 {

@@ -1,7 +1,7 @@
 // A log entry: whether a valid one starts at a position of the log's ring, and what it says.
 // Its modules: `ring`, positions and sectors of the ring; `header` and `descriptor`, the parts of an entry, each given as its
 // bytes; `body`, an entry's descriptors, data sectors and checksum, which may run past the ring's end.
-mod body;
+pub mod body;
 pub mod descriptor;
 pub mod header;
 pub mod ring;

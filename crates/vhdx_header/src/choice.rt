@@ -8,7 +8,7 @@ ghost use Rattle.extent.specs.Extent.{MiB};
 ghost use Rattle.vhdx_header.specs.Current.{headerAt, chosenSlot, currentSlot, readHeader, readSlot, readFirstMiB};
 
 // Which of the two headers is the current one.
-enum Slot {
+pub enum Slot {
     Neither,
     First,
     Second,
@@ -66,7 +66,7 @@ fn current_slot(m: &[u8]) -> Slot
     )
 }
 
-fn chosen_slot(first: bool, second: bool, number1: u64, number2: u64) -> Slot
+pub fn chosen_slot(first: bool, second: bool, number1: u64, number2: u64) -> Slot
     ensures { λ r. ⌜ r ≡ chosenSlot first second number1 number2 ⌝ }
 {
     if first {

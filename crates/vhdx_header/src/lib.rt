@@ -1,6 +1,6 @@
 // The current header of a VHDX file, which says where its log is, or the refusal: document 01's 1 to 4.
 // Its modules: `fields`, one header by itself; `choice`, which of the two headers is current.
-mod choice;
+pub mod choice;
 pub mod fields;
 
 ghost use mathlib.Core.Path.{_≡_};
@@ -34,7 +34,7 @@ pub fn read(buffer: &[u8], length: u64) -> Answer
     within_image(length, choice::read_first_mib(&buffer[..1048576]))
 }
 
-fn within_image(length: u64, answer: Answer) -> Answer
+pub fn within_image(length: u64, answer: Answer) -> Answer
     ensures { λ r. ⌜ r ≡ withinImage length answer ⌝ }
 {
     match answer {

@@ -25,7 +25,7 @@ ghost use Rattle.vhdx_log.specs.Answers.{Stands};
 const LIMIT: u64 = 140737488355328;
 
 // 8 does not apply.
-fn is_within(length: u64, capacity: u64) -> bool
+pub fn is_within(length: u64, capacity: u64) -> bool
     ensures { λ r. ⌜ r ≡ (leb length capacity && leb length lengthLimit) ⌝ }
 {
     (length <= capacity) & (length <= LIMIT)

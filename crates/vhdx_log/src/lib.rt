@@ -1,8 +1,8 @@
 // The log's work, planned before anything is written, or the refusal: document 01's 1 to 8.
 // Its modules: `survey`, what a sequence's descriptors say together; `decide`, refusals 6 to 8; `number`, sums and maxima.
-mod decide;
-mod number;
-mod survey;
+pub mod decide;
+pub mod number;
+pub mod survey;
 
 use vhdx_sequence::Found;
 use vhdx_walk::cursor::Cursor;

@@ -21,7 +21,7 @@ pub struct Survey {
 impl Survey {
     // A run's sectors stand one behind the other, so the whole range is tested at once. A run of length 0 names no sector,
     // so that it ends nowhere.
-    fn add(self, run: Run, log_offset: u64, log_length: u64) -> Survey
+    pub fn add(self, run: Run, log_offset: u64, log_length: u64) -> Survey
         ensures { λ r. ⌜ r ≡ added (record { offset = «log_offset»; length = «log_length» }) self (run .offset) (run .length) ⌝ }
     {
         let offset = run.offset;

@@ -145,12 +145,15 @@ module _ {log : List ℕ} {guid : Guid} where
       takes u =
           record {
             on = on;
-            here = subst (λ (m : ℕ). Placed m place) (sym (now .here .1)) (now .here);
-            there = subst (λ (m : ℕ). Placed m (st .start)) (sym (now .here .1)) (now .there);
-            tail = sized-here .2;
-            few = omega (arith, now .few);
-            run = omega (arith, reached .at);
-            countable = omega (arith, sized-here, now .few, now .here .1);
+            taking =
+                record {
+                  here = subst (λ (m : ℕ). Placed m place) (sym (now .here .1)) (now .here);
+                  there = subst (λ (m : ℕ). Placed m (st .start)) (sym (now .here .1)) (now .there);
+                  tail = sized-here .2;
+                  few = omega (arith, now .few);
+                  run = omega (arith, reached .at);
+                  countable = omega (arith, sized-here, now .few, now .here .1);
+                };
           }
 
       -- the entry was taken up

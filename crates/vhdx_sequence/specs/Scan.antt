@@ -76,13 +76,17 @@ numberAt log s = sequenceNumber (sectorAt log s)
 abbrev pub taken : List ℕ → ℕ → ℕ → State → Entry → State
 taken log n u st e = takenBy n u (runFrom u st (e .number)) st e (markAt log (e .tail)) (numberAt log (e .tail))
 
--- an entry at a place may be taken up: its Tail is a sector of the log, the run that it is in began at a place that the scan
+-- an entry at a place may be taken up: its Tail is a sector of the ring, the run that it is in began at a place that the scan
 -- came past, and the places can be counted
-pub record Takes (log : List ℕ) (place : Place) (t : Trace) (e : Entry) : Type 0 where
-  pub on : On log (place .pos)
+pub record Taking (place : Place) (t : Trace) (e : Entry) : Type 0 where
   pub here : Placed (place .pos .len) place
   pub there : Placed (place .pos .len) (t .start)
   pub tail : e .tail < place .pos .len
   pub few : place .pos .len < 2 ^ 32
   pub run : runFrom (place .count) (stateOf t) (e .number) ≤ place .count
   pub countable : place .count + e .size < 2 ^ 64
+
+-- and the place is one of the log's ring
+pub record Takes (log : List ℕ) (place : Place) (t : Trace) (e : Entry) : Type 0 where
+  pub on : On log (place .pos)
+  pub taking : Taking place t e

@@ -1,9 +1,9 @@
 // The active log sequence: of all lists of entries in the log's ring that are log sequences, the one that is to be replayed.
 // Its modules: `lap`, places on the way over the ring; `order`, which of two sequences is preferred; `scan`, the state of the
 // one way over the ring that finds the active one.
-mod lap;
+pub mod lap;
 mod order;
-mod scan;
+pub mod scan;
 
 use scan::Trace;
 use vhdx_entry::Slot;

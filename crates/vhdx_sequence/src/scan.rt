@@ -13,7 +13,7 @@ ghost use Prim.Native.Nat.{_-_, _%_, _≤_, _<_, _^_};
 ghost use lib.ListN.{length};
 ghost use Rattle.vhdx_entry.specs.Entry.{signatureRule, sequenceNumber};
 ghost use Rattle.vhdx_sequence.specs.Sequence.{sequenceOf};
-ghost use Rattle.vhdx_sequence.specs.Scan.{Placed, stateOf, fresh, runFrom, goesOn, headedBy, taken, Takes};
+ghost use Rattle.vhdx_sequence.specs.Scan.{Placed, stateOf, fresh, runFrom, goesOn, headedBy, takenBy, taken, Taking, Takes};
 
 // A run is a list of valid entries, each starting where the one before ended, numbers rising by one. `start` is the place where
 // the present run began, `next` the count of the place where its last entry ends, `number` that entry's number.
@@ -62,8 +62,6 @@ impl Trace {
         ensures { λ r. ⌜ stateOf r ≡ taken (now (log .entry)) (place .pos .len) (place .count) (stateOf self) e ⌝ }
         ensures { λ r. ⌜ Placed (place .pos .len) (r .start) ⌝ }
     {
-        let best = self.best;
-        let start = run_from(self, place, e.number);
         let tail = ring::sector(
             log,
             RingPos {
@@ -71,6 +69,17 @@ impl Trace {
                 len: place.pos.len,
             },
         );
+        self.take_by(tail, place, e)
+    }
+
+    // The same, given the sector that its Tail names.
+    pub fn take_by(self, tail: &[u8], place: Place, e: Entry) -> Trace
+        requires { ⌜ (length (now tail) ≡ 4096) × Taking place self e ⌝ }
+        ensures { λ r. ⌜ stateOf r ≡ takenBy (place .pos .len) (place .count) (runFrom (place .count) (stateOf self) (e .number)) (stateOf self) e (signatureRule (now (tail .entry))) (sequenceNumber (now (tail .entry))) ⌝ }
+        ensures { λ r. ⌜ Placed (place .pos .len) (r .start) ⌝ }
+    {
+        let best = self.best;
+        let start = run_from(self, place, e.number);
         Trace {
             start,
             next: place.count + e.size,

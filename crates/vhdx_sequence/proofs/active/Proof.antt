@@ -35,7 +35,7 @@ take-requires : tie.Need-take-requires Inv-loop μ-loop
 take-requires c κs = takes (c .before .before .before .before .before .before .loop .inv) (in-turn (c .before .before .before .before) .1) (c .before .before .before .read .ensures) (c .before .e .given .1) (in-turn (c .before .before .before .before) .0)
 
 advance-requires : tie.Need-advance-requires Inv-loop μ-loop
-advance-requires c κs = (in-turn (c .before .before .before .before .before) .1 .0, sized (c .before .before) .1, takes (c .before .before .before .before .before .before .before .loop .inv) (in-turn (c .before .before .before .before .before) .1) (c .before .before .before .before .read .ensures) (c .before .before .e .given .1) (in-turn (c .before .before .before .before .before) .0) .countable)
+advance-requires c κs = (in-turn (c .before .before .before .before .before) .1 .0, sized (c .before .before) .1, takes (c .before .before .before .before .before .before .before .loop .inv) (in-turn (c .before .before .before .before .before) .1) (c .before .before .before .before .read .ensures) (c .before .before .e .given .1) (in-turn (c .before .before .before .before .before) .0) .taking .countable)
 
 loop-less : tie.Need-loop-less Inv-loop μ-loop
 loop-less c = omega (arith, ap (λ (p : Place). p .count) (c .advance .ensures), sized (c .before .before .before), in-turn (c .before .before .before .before .before .before) .0)

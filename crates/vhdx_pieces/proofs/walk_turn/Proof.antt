@@ -1,0 +1,40 @@
+-- `vhdx_pieces::walk_turn` meets its contract.
+-- Assumes nothing.
+use mathlib.Core.Path.{_≡_, refl, sym, ap, _∙_, subst}
+use Rattle.vhdx_pieces_plan.specs.Planning.{sectorsOf}
+use Rattle.vhdx_pieces_walk.specs.Walking.{Onward}
+use Rattle.vhdx_pieces.specs.Machines.{walked}
+use borrow.Author.Needs.{needs}
+use Rattle.vhdx_pieces.proofs.walk_turn.Statement.{statement}
+use Rattle.vhdx_pieces.proofs.walk_turn.Tie as tie
+
+returns : tie.Need-returns
+returns c =
+    let a = c .before .before .before .args in
+    let o = subst (Onward (sectorsOf (a .o .log))) (c .before .step .given .1) (c .before .before .before .pre .1) in
+    (sym (ap (walked (a .o)) (c .before .step .given .1)), (c .before .before .before .pre .0, o .0, o .1))
+
+returns-2 : tie.Need-returns-2
+returns-2 c =
+    let a = c .before .before .before .args in
+    let o = subst (Onward (sectorsOf (a .o .log))) (c .before .step2 .given .1) (c .before .before .before .pre .1) in
+    (sym (ap (walked (a .o)) (c .before .step2 .given .1)), (c .before .before .before .pre .0, o .0, o .1))
+
+returns-3 : tie.Need-returns-3
+returns-3 c = (sym (ap (walked (c .before .before .args .o)) (c .enum-told .given .1)), tt)
+
+returns-4 : tie.Need-returns-4
+returns-4 c = (sym (ap (walked (c .before .before .args .o)) (c .enum-told2 .given .1)), tt)
+
+pub walk-turn-spec : {M : Type 1} → statement M
+walk-turn-spec =
+    tie.close
+    (tie.spec
+    (λ c. search needs)
+    (λ c. search needs)
+    (λ c. search needs)
+    (λ c. search needs)
+    returns
+    returns-2
+    returns-3
+    returns-4)

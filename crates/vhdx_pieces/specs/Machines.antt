@@ -1,0 +1,94 @@
+-- The log's work in pieces: what a machine asks for, and what it does when that is done.
+-- Assumes nothing.
+use mathlib.Core.Bool.{Bool, cond}
+use mathlib.Core.List.{List, []}
+use mathlib.Core.Path.{_≡_}
+use Prim.Native.Nat.{ℕ, _+_, _≤_, _<_}
+use lib.Dec.{ltb}
+use Rattle.extent.specs.declared.Extent.{Extent}
+use Rattle.vhdx_walk.specs.Entries.{Sector}
+use Rattle.vhdx_pieces_plan.specs.declared.Order.{Order}
+use Rattle.vhdx_pieces_plan.specs.declared.Outcome.{Outcome}
+use Rattle.vhdx_pieces_plan.specs.declared.Outcome.the-variants as outcome
+use Rattle.vhdx_pieces_plan.specs.declared.Step as plan
+use Rattle.vhdx_pieces_plan.specs.declared.Step.the-variants as planStep
+use Rattle.vhdx_pieces_plan.specs.Planning as planning
+use Rattle.vhdx_pieces_plan.specs.Planning.{sectorsOf, sectorIn, OrderFor}
+use Rattle.vhdx_pieces_walk.specs.declared.Bounds.{Bounds}
+use Rattle.vhdx_pieces_walk.specs.declared.Step as walk
+use Rattle.vhdx_pieces_walk.specs.declared.Step.the-variants as walkStep
+use Rattle.vhdx_pieces_walk.specs.Walking as walking
+use Rattle.vhdx_pieces.specs.declared.Doing.{Doing}
+use Rattle.vhdx_pieces.specs.declared.Machine.{Machine}
+use Rattle.vhdx_pieces.specs.declared.Machine.the-variants.{Planning, Growing, Reading, Writing}
+use Rattle.vhdx_pieces.specs.declared.Finish.{Finish}
+use Rattle.vhdx_pieces.specs.declared.Turn.{Turn}
+use Rattle.vhdx_pieces.specs.declared.Turn.the-variants.{Read, Grow, Write, Done, Refused}
+
+-- the bytes that are wanted, none where something else is asked for
+abbrev pub wantedOf : Machine → Extent
+wantedOf (Planning p) = planning.wantedOf p
+wantedOf (Growing o) = record { offset = 0; length = 0 }
+wantedOf (Reading d) = sectorIn (d .order .log) (walking.wantedOf (d .walker))
+wantedOf (Writing d) = record { offset = 0; length = 0 }
+
+-- the length to which the file is to grow
+abbrev pub growthOf : Machine → ℕ
+growthOf (Planning p) = 0
+growthOf (Growing o) = o .length
+growthOf (Reading d) = 0
+growthOf (Writing d) = 0
+
+-- the sector that is to be written, where p was read last
+abbrev pub writtenOf : Machine → List ℕ → Sector
+writtenOf (Planning p) s = record { offset = 0; bytes = [] }
+writtenOf (Growing o) s = record { offset = 0; bytes = [] }
+writtenOf (Reading d) s = record { offset = 0; bytes = [] }
+writtenOf (Writing d) s = walking.writtenOf (d .walker) s
+
+abbrev pub boundsOf : Order → Bounds
+boundsOf o = record { log = o .log; limit = o .length }
+
+abbrev pub walked : Order → walk.Step → Turn
+walked o (walkStep.Read w) = Read (Reading (record { order = o; walker = w }))
+walked o (walkStep.Write w) = Write (Writing (record { order = o; walker = w }))
+walked o walkStep.Ended = Done (record { length = o .length; count = o .count })
+walked o walkStep.Broken = Refused 5
+
+unfoldable pub walkFrom : Order → Turn
+walkFrom o = walked o (walking.started (record { at = o .start; len = sectorsOf (o .log) }) (o .left))
+
+abbrev pub ordered : ℕ → Outcome → Turn
+ordered n (outcome.Refused c) = Refused c
+ordered n (outcome.Apply o) = cond (ltb n (o .length)) (Grow (Growing o)) (walkFrom o)
+
+abbrev pub planned : ℕ → plan.Step → Turn
+planned n (planStep.Read p) = Read (Planning p)
+planned n (planStep.Ended o) = ordered n o
+
+abbrev pub started : ℕ → ℕ → Turn
+started n capacity = planned n (planning.started n capacity)
+
+abbrev pub stepIn : Machine → List ℕ → Turn
+stepIn (Planning p) s = planned (p .context .length) (planning.stepOf p s)
+stepIn (Growing o) s = walkFrom o
+stepIn (Reading d) s = walked (d .order) (walking.stepOf (boundsOf (d .order)) (d .walker) s)
+stepIn (Writing d) s = walked (d .order) (walking.wroteOf (d .walker))
+
+unfoldable pub stepOf : Machine → List ℕ → Turn
+stepOf m s = stepIn m s
+
+-- ---- what a machine keeps to, whatever is fed
+
+abbrev pub Sane : Machine → Type 0
+Sane (Planning p) = planning.Sane p
+Sane (Growing o) = OrderFor (o .length) o
+Sane (Reading d) = OrderFor (d .order .length) (d .order) × walking.Sane (d .walker) × (d .walker .pos .len ≡ sectorsOf (d .order .log))
+Sane (Writing d) = OrderFor (d .order .length) (d .order) × walking.Sane (d .walker) × (d .walker .pos .len ≡ sectorsOf (d .order .log))
+
+abbrev pub Kept : Turn → Type 0
+Kept (Read m) = Sane m
+Kept (Grow m) = Sane m
+Kept (Write m) = Sane m
+Kept (Done w) = Unit {0}
+Kept (Refused c) = Unit {0}

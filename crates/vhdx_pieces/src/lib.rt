@@ -1,0 +1,171 @@
+// The log's work in pieces: a machine says which bytes of the file it wants, to which length the file is to grow, or that a sector is to
+// be written. It is handed in again when they are there or it is done, and handed back moved.
+use extent::Extent;
+use vhdx_entry::ring::RingPos;
+use vhdx_pieces_plan::Order;
+use vhdx_pieces_plan::Outcome;
+use vhdx_pieces_plan::Planner;
+use vhdx_pieces_walk::Bounds;
+use vhdx_pieces_walk::Walker;
+ghost use mathlib.Core.Path.{_≡_};
+ghost use Prim.Native.Nat.{_+_, _≤_, _<_};
+ghost use lib.ListN.{length as lengthOf};
+ghost use Rattle.vhdx_pieces_plan.specs.Planning.{sectorsOf, OrderFor, Ordered, Kept as PlanKept};
+ghost use Rattle.vhdx_pieces_walk.specs.Walking.{Onward as WalkOnward};
+ghost use Rattle.vhdx_pieces.specs.Machines.{Sane, Kept, wantedOf, started, planned, ordered, walked, walkFrom, stepOf};
+
+// An order that is being done.
+pub struct Doing {
+    pub order: Order,
+    pub walker: Walker,
+}
+
+pub enum Machine {
+    Planning(Planner),
+    Growing(Order),
+    Reading(Doing),
+    Writing(Doing),
+}
+
+// The final length, and how many sectors were written.
+pub struct Finish {
+    pub length: u64,
+    pub count: u64,
+}
+
+// What is asked for. Whatever is asked of the machine that it hands out, that is to be done before it is handed in again.
+pub enum Turn {
+    // bytes of the file are wanted
+    Read(Machine),
+    // the file is to grow
+    Grow(Machine),
+    // a sector is to be written
+    Write(Machine),
+    Done(Finish),
+    // document 01's number
+    Refused(u64),
+}
+
+// Of a file of this length, in this capacity.
+pub fn start(length: u64, capacity: u64) -> Turn
+    ensures { λ r. ⌜ (r ≡ started length capacity) × Kept r ⌝ }
+{
+    plan_turn(length, vhdx_pieces_plan::start(length, capacity))
+}
+
+// The bytes of the file that are wanted, none where something else is asked for.
+pub fn wanted(m: Machine) -> Extent
+    requires { ⌜ Sane m ⌝ }
+    ensures { λ r. ⌜ (r ≡ wantedOf m) × (r .length ≤ 65536) ⌝ }
+{
+    match m {
+        Machine::Planning(p) => vhdx_pieces_plan::wanted(p),
+        Machine::Growing(_) => extent::nowhere(),
+        Machine::Reading(d) => {
+            let o = d.order;
+            let w = d.walker;
+            let log = o.log;
+            vhdx_pieces_plan::sector_at(log, vhdx_pieces_walk::wanted(w))
+        }
+        Machine::Writing(_) => extent::nowhere(),
+    }
+}
+
+// Handed in, after what it asked for; the piece counts after a read only.
+pub fn next(m: Machine, piece: &[u8]) -> Turn
+    requires { ⌜ Sane m × (lengthOf (now piece) ≡ wantedOf m .length) ⌝ }
+    ensures { λ r. ⌜ (r ≡ stepOf m (now (piece .entry))) × Kept r ⌝ }
+{
+    match m {
+        Machine::Planning(p) => {
+            let context = p.context;
+            plan_turn(context.length, vhdx_pieces_plan::next(p, piece))
+        }
+        Machine::Growing(o) => walk_from(o),
+        Machine::Reading(d) => {
+            let o = d.order;
+            let w = d.walker;
+            let log = o.log;
+            walk_turn(
+                o,
+                vhdx_pieces_walk::next(
+                    w,
+                    Bounds {
+                        log,
+                        limit: o.length,
+                    },
+                    piece,
+                ),
+            )
+        }
+        Machine::Writing(d) => {
+            let o = d.order;
+            let w = d.walker;
+            walk_turn(o, vhdx_pieces_walk::wrote(w))
+        }
+    }
+}
+
+fn plan_turn(length: u64, step: vhdx_pieces_plan::Step) -> Turn
+    requires { ⌜ PlanKept length step ⌝ }
+    ensures { λ r. ⌜ (r ≡ planned length step) × Kept r ⌝ }
+{
+    match step {
+        vhdx_pieces_plan::Step::Read(p) => Turn::Read(Machine::Planning(p)),
+        vhdx_pieces_plan::Step::Ended(outcome) => order_turn(length, outcome),
+    }
+}
+
+// Growth comes first, only where the final length is greater.
+fn order_turn(length: u64, outcome: Outcome) -> Turn
+    requires { ⌜ Ordered length outcome ⌝ }
+    ensures { λ r. ⌜ (r ≡ ordered length outcome) × Kept r ⌝ }
+{
+    match outcome {
+        Outcome::Refused(number) => Turn::Refused(number),
+        Outcome::Apply(o) => {
+            if length < o.length {
+                Turn::Grow(Machine::Growing(o))
+            } else {
+                walk_from(o)
+            }
+        }
+    }
+}
+
+fn walk_from(o: Order) -> Turn
+    requires { ⌜ OrderFor (o .length) o ⌝ }
+    ensures { λ r. ⌜ (r ≡ walkFrom o) × Kept r ⌝ }
+{
+    let log = o.log;
+    let n = vhdx_pieces_plan::sectors(log);
+    walk_turn(
+        o,
+        vhdx_pieces_walk::start(
+            RingPos {
+                at: o.start,
+                len: n,
+            },
+            o.left,
+        ),
+    )
+}
+
+fn walk_turn(o: Order, step: vhdx_pieces_walk::Step) -> Turn
+    requires { ⌜ OrderFor (o .length) o × WalkOnward (sectorsOf (o .log)) step ⌝ }
+    ensures { λ r. ⌜ (r ≡ walked o step) × Kept r ⌝ }
+{
+    match step {
+        vhdx_pieces_walk::Step::Read(walker) => {
+            Turn::Read(Machine::Reading(Doing { order: o, walker }))
+        }
+        vhdx_pieces_walk::Step::Write(walker) => {
+            Turn::Write(Machine::Writing(Doing { order: o, walker }))
+        }
+        vhdx_pieces_walk::Step::Ended => Turn::Done(Finish {
+            length: o.length,
+            count: o.count,
+        }),
+        vhdx_pieces_walk::Step::Broken => Turn::Refused(5),
+    }
+}
