@@ -12,6 +12,8 @@ use lib.Dec.{T, eqb, leb, ltb}
 use lib.ListN.{length, take, drop, length-drop}
 use lib.Seq.{length-take-le}
 use borrow.Author.Tests.{lt-ltb, le-ltb, le-leb, eq-eqb, ne-eqb, eqb-true, eqb-false}
+use Rattle.field.specs.Fields.{leBytes, Bytes, field}
+use Rattle.field.proofs.Bytes.{bytes-append, bytes-take, bytes-drop, bytes-field}
 use Rattle.extent.specs.declared.Extent.{Extent}
 use Rattle.extent.specs.Extent.{inside}
 use Rattle.vhdx_entry.specs.declared.ring.RingPos.{RingPos}
@@ -35,9 +37,8 @@ use Rattle.vhdx_pieces_walk.specs.declared.Walker.{Walker}
 use Rattle.vhdx_pieces_walk.specs.declared.Step.{Step}
 use Rattle.vhdx_pieces_walk.specs.declared.Step.the-variants.{Read, Write, Ended, Broken}
 use Rattle.vhdx_pieces_walk.specs.Walking as walking
-use Rattle.vhdx_pieces_walk.specs.Walking.{staged, atHeader, started, wantedOf, resumed, idleFrom, pastBy, allowed, beyondBy, heldIn, met, fromIn, hereIn, lookedAt, looked, opened, fits, stepOf, wroteOf, bytesOf, writtenOf, Writes, Bytes, WritesAll}
+use Rattle.vhdx_pieces_walk.specs.Walking.{staged, atHeader, started, wantedOf, resumed, idleFrom, pastBy, allowed, beyondBy, heldIn, met, fromIn, hereIn, lookedAt, looked, opened, fits, stepOf, wroteOf, writtenOf, Writes, WritesAll}
 use Rattle.vhdx_pieces_walk.proofs.Turns.{idle-stop, idle-more, met-data, met-zeros}
-use Rattle.vhdx_pieces_walk.proofs.Digits.{bytes-take, bytes-drop, bytes-append, bytes-field}
 
 -- what is left may be written
 record Fine (b : Bounds) (ds : List Descriptor) : Type 0 where

@@ -5,10 +5,10 @@ use mathlib.Core.List.{List, [], _∷_, _++_}
 use mathlib.Core.Path.{_≡_}
 use Prim.Native.Nat.{ℕ, zero, suc, _+_, _-_, _*_, _/_, _%_, _≤_, _<_, min}
 use lib.Dec.{eqb, leb, ltb}
-use lib.ListN.{length, take, drop, getD}
+use lib.ListN.{length, take, drop}
 use Rattle.extent.specs.declared.Extent.{Extent}
 use Rattle.extent.specs.Extent.{inside}
-use Rattle.field.specs.Fields.{field}
+use Rattle.field.specs.Fields.{leBytes, Bytes, field}
 use Rattle.vhdx_entry.specs.declared.ring.RingPos.{RingPos}
 use Rattle.vhdx_entry.specs.Ring.{sectorCount, sectorAt, advanced}
 use Rattle.vhdx_entry.specs.Entry.{isData, fileOffset, zeroLength, descriptorCount, descriptorSectors, entryLength}
@@ -156,18 +156,17 @@ Onward n Broken = Unit {0}
 
 -- ---- what is written
 
--- the k bytes that a number stands for
-unfoldable pub bytesOf : ℕ → ℕ → List ℕ
-bytesOf zero x = []
-bytesOf (suc k) x = (x % 256) ∷ bytesOf k (x / 256)
+-- a data sector with the bytes at its two ends that its descriptor holds
+abbrev pub dataSector : Held → List ℕ → List ℕ
+dataSector d p = leBytes 8 (d .leading) ++ (take 4084 (drop 8 p) ++ leBytes 4 (d .trailing))
 
--- with the data sector, which was read last, in p
+-- with the data sector, which was read last, in p; nothing is written in the other stages
 abbrev pub writtenIn : Stage → List ℕ → Sector
-writtenIn (stage.Sector d) p = record { offset = d .offset; bytes = bytesOf 8 (d .leading) ++ (take 4084 (drop 8 p) ++ bytesOf 4 (d .trailing)) }
+writtenIn (stage.Sector d) p = record { offset = d .offset; bytes = dataSector d p }
 writtenIn (stage.Zeros e) p = record { offset = e .offset; bytes = zeroSector }
-writtenIn stage.Header p = record { offset = 0; bytes = [] }
-writtenIn stage.Descriptors p = record { offset = 0; bytes = [] }
-writtenIn (stage.Data d) p = record { offset = 0; bytes = [] }
+writtenIn stage.Header p = record { offset = 0; bytes = p }
+writtenIn stage.Descriptors p = record { offset = 0; bytes = p }
+writtenIn (stage.Data d) p = record { offset = 0; bytes = p }
 
 abbrev pub writtenOf : Walker → List ℕ → Sector
 writtenOf w p = writtenIn (w .stage) p
@@ -180,10 +179,6 @@ pub data Writes (log : List ℕ) (b : Bounds) : List ℕ → Step → List Secto
   reads : {p : List ℕ} {w : Walker} {ss : List Sector} → wantedOf w < sectorCount log
       → Writes log b (sectorAt log (wantedOf w)) (stepOf b w (sectorAt log (wantedOf w))) ss → Writes log b p (Read w) ss
   writes : {p : List ℕ} {w : Walker} {ss : List Sector} → ((p₂ : List ℕ) → Writes log b p₂ (wroteOf w) ss) → Writes log b p (Write w) (writtenOf w p ∷ ss)
-
--- a list of bytes
-abbrev pub Bytes : List ℕ → Type 0
-Bytes p = (i : ℕ) → getD p i 0 < 256
 
 abbrev pub WritesAll : Type 0
 WritesAll =
