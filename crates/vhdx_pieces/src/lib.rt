@@ -12,7 +12,7 @@ ghost use Prim.Native.Nat.{_+_, _≤_, _<_};
 ghost use lib.ListN.{length as lengthOf};
 ghost use Rattle.vhdx_pieces_plan.specs.Planning.{sectorsOf, OrderFor, Ordered, Kept as PlanKept};
 ghost use Rattle.vhdx_pieces_walk.specs.Walking.{Onward as WalkOnward};
-ghost use Rattle.vhdx_pieces.specs.Machines.{Sane, Kept, wantedOf, started, planned, ordered, walked, walkFrom, stepOf};
+ghost use Rattle.vhdx_pieces.specs.Machines.{Sane, Kept, boundsOf, wantedOf, started, planned, ordered, walked, walkFrom, stepOf};
 
 // An order that is being done.
 pub struct Doing {
@@ -152,7 +152,7 @@ fn walk_from(o: Order) -> Turn
 }
 
 fn walk_turn(o: Order, step: vhdx_pieces_walk::Step) -> Turn
-    requires { ⌜ OrderFor (o .length) o × WalkOnward (sectorsOf (o .log)) step ⌝ }
+    requires { ⌜ OrderFor (o .length) o × WalkOnward (boundsOf o) (sectorsOf (o .log)) step ⌝ }
     ensures { λ r. ⌜ (r ≡ walked o step) × Kept r ⌝ }
 {
     match step {

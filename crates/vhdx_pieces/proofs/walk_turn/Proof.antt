@@ -3,7 +3,7 @@
 use mathlib.Core.Path.{_≡_, refl, sym, ap, _∙_, subst}
 use Rattle.vhdx_pieces_plan.specs.Planning.{sectorsOf}
 use Rattle.vhdx_pieces_walk.specs.Walking.{Onward}
-use Rattle.vhdx_pieces.specs.Machines.{walked}
+use Rattle.vhdx_pieces.specs.Machines.{boundsOf, walked}
 use borrow.Author.Needs.{needs}
 use Rattle.vhdx_pieces.proofs.walk_turn.Statement.{statement}
 use Rattle.vhdx_pieces.proofs.walk_turn.Tie as tie
@@ -11,13 +11,13 @@ use Rattle.vhdx_pieces.proofs.walk_turn.Tie as tie
 returns : tie.Need-returns
 returns c =
     let a = c .before .before .before .args in
-    let o = subst (Onward (sectorsOf (a .o .log))) (c .before .step .given .1) (c .before .before .before .pre .1) in
+    let o = subst (Onward (boundsOf (a .o)) (sectorsOf (a .o .log))) (c .before .step .given .1) (c .before .before .before .pre .1) in
     (sym (ap (walked (a .o)) (c .before .step .given .1)), (c .before .before .before .pre .0, o .0, o .1))
 
 returns-2 : tie.Need-returns-2
 returns-2 c =
     let a = c .before .before .before .args in
-    let o = subst (Onward (sectorsOf (a .o .log))) (c .before .step2 .given .1) (c .before .before .before .pre .1) in
+    let o = subst (Onward (boundsOf (a .o)) (sectorsOf (a .o .log))) (c .before .step2 .given .1) (c .before .before .before .pre .1) in
     (sym (ap (walked (a .o)) (c .before .step2 .given .1)), (c .before .before .before .pre .0, o .0, o .1))
 
 returns-3 : tie.Need-returns-3
