@@ -93,8 +93,8 @@ stepOf m s = stepIn m s
 abbrev pub Sane : Machine → Type 0
 Sane (Planning p) = planning.Sane p
 Sane (Growing o) = OrderFor (o .length) o
-Sane (Reading d) = OrderFor (d .order .length) (d .order) × walking.Sane (d .walker) × (d .walker .pos .len ≡ sectorsOf (d .order .log))
-Sane (Writing d) = OrderFor (d .order .length) (d .order) × walking.Sane (d .walker) × (d .walker .pos .len ≡ sectorsOf (d .order .log))
+Sane (Reading d) = OrderFor (d .order .length) (d .order) × walking.SaneReading (boundsOf (d .order)) (d .walker) × (d .walker .pos .len ≡ sectorsOf (d .order .log))
+Sane (Writing d) = OrderFor (d .order .length) (d .order) × walking.SaneWriting (boundsOf (d .order)) (d .walker) × (d .walker .pos .len ≡ sectorsOf (d .order .log))
 
 abbrev pub Kept : Turn → Type 0
 Kept (Read m) = Sane m

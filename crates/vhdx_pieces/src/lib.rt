@@ -14,7 +14,7 @@ ghost use lib.ListN.{length as lengthOf};
 ghost use Rattle.vhdx_pieces_plan.specs.Planning.{sectorsOf, OrderFor, Ordered, Kept as PlanKept};
 ghost use Rattle.vhdx_pieces_walk.specs.declared.Step.the-variants.{Write};
 ghost use Rattle.vhdx_pieces_walk.specs.Walking.{Onward as WalkOnward};
-ghost use Rattle.vhdx_pieces.specs.Machines.{Sane, Kept, wantedOf, growthOf, writtenOf, isDataOf, started, planned, ordered, walked, walkFrom, stepOf};
+ghost use Rattle.vhdx_pieces.specs.Machines.{Sane, Kept, boundsOf, wantedOf, growthOf, writtenOf, isDataOf, started, planned, ordered, walked, walkFrom, stepOf};
 
 // An order that is being done, with the number of its sectors that are not written yet.
 pub struct Doing {
@@ -216,7 +216,7 @@ fn walk_from(o: Order) -> Turn
 
 // Where so many planned sectors are not written yet. A log that reads otherwise than when it was surveyed asks for more or fewer.
 fn walk_turn(o: Order, unwritten: u64, step: vhdx_pieces_walk::Step) -> Turn
-    requires { ⌜ OrderFor (o .length) o × WalkOnward (sectorsOf (o .log)) step ⌝ }
+    requires { ⌜ OrderFor (o .length) o × WalkOnward (boundsOf o) (sectorsOf (o .log)) step ⌝ }
     ensures { λ r. ⌜ (r ≡ walked o unwritten step) × Kept r ⌝ }
 {
     match step {
@@ -241,7 +241,7 @@ fn walk_turn(o: Order, unwritten: u64, step: vhdx_pieces_walk::Step) -> Turn
 }
 
 fn write_turn(o: Order, unwritten: u64, walker: Walker) -> Turn
-    requires { ⌜ OrderFor (o .length) o × WalkOnward (sectorsOf (o .log)) (Write walker) ⌝ }
+    requires { ⌜ OrderFor (o .length) o × WalkOnward (boundsOf o) (sectorsOf (o .log)) (Write walker) ⌝ }
     ensures { λ r. ⌜ (r ≡ walked o unwritten (Write walker)) × Kept r ⌝ }
 {
     if 0 < unwritten {

@@ -1,2 +1,4 @@
+pub mod Allowed
 pub mod Turns
 pub mod Walked
+pub mod Advancing
