@@ -1,7 +1,7 @@
 -- The scan for the active log sequence, in pieces: what a scanner wants, and what it does with it. A trace and a place are told
 -- by the state that they stand for: `traceOf`, `placeAt`.
 -- Assumes nothing.
-use mathlib.Core.Bool.{Bool, cond, _&&_}
+use mathlib.Core.Bool.{cond, _&&_}
 use mathlib.Core.List.{List}
 use mathlib.Core.Option.{Option, none, some}
 use mathlib.Core.Path.{_≡_}
@@ -19,7 +19,6 @@ use Rattle.vhdx_sequence.specs.declared.lap.Place.{Place}
 use Rattle.vhdx_sequence.specs.declared.scan.Trace.{Trace}
 use Rattle.vhdx_sequence.specs.Sequence.{sequenceOf, activeSequence}
 use Rattle.vhdx_sequence.specs.Scan.{Placed, State, stateOf, fresh, runFrom, takenBy, goesOn}
-use Rattle.vhdx_pieces_entry.specs.declared.Reading.{Reading}
 use Rattle.vhdx_pieces_entry.specs.declared.Progress.{Progress}
 use Rattle.vhdx_pieces_entry.specs.declared.Progress.the-variants.{More, Valid, Empty}
 use Rattle.vhdx_pieces_entry.specs.Pass as pass
