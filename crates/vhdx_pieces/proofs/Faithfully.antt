@@ -1,15 +1,15 @@
 -- Fed one file faithfully, the machine ends, having asked for the whole-buffer form's growth and writes, or with its refusal.
 -- Assumes nothing.
-use mathlib.Core.Path.{_≡_, refl, sym, ap, ap₂, _∙_, subst}
-use mathlib.Core.Bool.{Bool, true, false, cond, _&&_}
-use mathlib.Core.List.{List, [], _∷_, _++_, map}
-use Prim.Native.Nat.{ℕ, zero, suc, _+_, _-_, _*_, _/_, _%_, _≤_, _<_}
+use mathlib.Core.Path.{_≡_, sym, ap, _∙_, subst}
+use mathlib.Core.Bool.{Bool, true, false, cond}
+use mathlib.Core.List.{List, _∷_, _++_, map}
+use Prim.Native.Nat.{ℕ, _+_, _-_, _*_, _≤_, _<_}
 use native.Mathlib.Decide.{decLt}
 use native.Mathlib.Omega.{arith}
-use lib.Dec.{leb, ltb, lit≤}
+use lib.Dec.{ltb, lit≤}
 use lib.ListN.{length, take, drop, replicate, length-append, length-drop, length-replicate}
 use lib.Seq.{length-take-le, take-append-le, drop-append-le, drop-drop}
-use borrow.Author.Tests.{lt-ltb, le-ltb, lt-leb}
+use borrow.Author.Tests.{lt-ltb, lt-leb}
 use Rattle.field.specs.Fields.{Bytes}
 use Rattle.field.proofs.Bytes.{bytes-append, bytes-take, bytes-drop, bytes-zeros}
 use Rattle.extent.specs.declared.Extent.{Extent}
@@ -35,7 +35,6 @@ use Rattle.vhdx_pieces_walk.specs.declared.Step as walkStep
 use Rattle.vhdx_pieces_walk.specs.Walking as walking
 use Rattle.vhdx_pieces_walk.proofs.Walked.{writes-all}
 use Rattle.vhdx_pieces.specs.declared.Machine.the-variants.{Planning, Growing, Reading, Writing}
-use Rattle.vhdx_pieces.specs.declared.Turn.{Turn}
 use Rattle.vhdx_pieces.specs.declared.Turn.the-variants.{Grow, Refused}
 use Rattle.vhdx_pieces.specs.Machines.{boundsOf, walked, walkFrom, ordered, planned, started, stepOf}
 use Rattle.vhdx_pieces.specs.Runs as runs

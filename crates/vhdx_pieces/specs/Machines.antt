@@ -3,7 +3,7 @@
 use mathlib.Core.Bool.{Bool, false, cond}
 use mathlib.Core.List.{List}
 use mathlib.Core.Path.{_≡_}
-use Prim.Native.Nat.{ℕ, _+_, _-_, _≤_, _<_}
+use Prim.Native.Nat.{ℕ, _-_}
 use lib.Dec.{eqb, ltb}
 use Rattle.decision.specs.Refusal.{check}
 use Rattle.extent.specs.declared.Extent.{Extent}
@@ -20,10 +20,8 @@ use Rattle.vhdx_pieces_walk.specs.declared.Step as walk
 use Rattle.vhdx_pieces_walk.specs.declared.Step.the-variants as walkStep
 use Rattle.vhdx_pieces_walk.specs.Walking as walking
 use Rattle.vhdx_pieces_sector.specs.Written as written
-use Rattle.vhdx_pieces.specs.declared.Doing.{Doing}
 use Rattle.vhdx_pieces.specs.declared.Machine.{Machine}
 use Rattle.vhdx_pieces.specs.declared.Machine.the-variants.{Planning, Growing, Reading, Writing}
-use Rattle.vhdx_pieces.specs.declared.Finish.{Finish}
 use Rattle.vhdx_pieces.specs.declared.Turn.{Turn}
 use Rattle.vhdx_pieces.specs.declared.Turn.the-variants.{Read, Grow, Write, Done, Refused}
 

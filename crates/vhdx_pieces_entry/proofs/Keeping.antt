@@ -19,7 +19,7 @@ use Rattle.vhdx_pieces_entry.specs.declared.Reading.{Reading}
 use Rattle.vhdx_pieces_entry.specs.declared.Progress.{Progress}
 use Rattle.vhdx_pieces_entry.specs.declared.Progress.the-variants.{More, Valid, Empty}
 use Rattle.vhdx_pieces_entry.specs.Sector.{descriptorIn, passes, dataIn}
-use Rattle.vhdx_pieces_entry.specs.Pass.{front, sizeOf, closed, going, settled, fromOf, here, past, onFront, onData, further, beginning, first, Sized, Sane, Kept}
+use Rattle.vhdx_pieces_entry.specs.Pass.{front, sizeOf, closed, settled, fromOf, here, past, onFront, onData, further, beginning, first, Sized, Sane, Kept}
 use Rattle.vhdx_pieces_entry.proofs.Laws.{chosen}
 
 pub few-data : (s : List ℕ) (from m : ℕ) → dataIn s from m ≤ m

@@ -2,14 +2,14 @@
 use mathlib.Core.Path.{_≡_, refl, sym, ap, _∙_, subst}
 use mathlib.Core.Bool.{Bool, true, false, cond, _&&_}
 use mathlib.Core.List.{List}
-use mathlib.Core.Option.{Option, none, some}
+use mathlib.Core.Option.{Option, none}
 use Prim.Native.Nat.{ℕ, zero, suc, _+_, _-_, _*_, _/_, _≤_, _<_, min}
-use native.Mathlib.Nat.{add-zero, add-suc}
+use native.Mathlib.Nat.{add-zero}
 use native.Mathlib.Numerals.{add-one}
 use native.Mathlib.Omega.{arith}
 use lib.Bits.{bitXor}
-use lib.Dec.{T, eqb, leb, ltb, eqb·suc-zero, lit≤}
-use lib.ListN.{length, take, drop}
+use lib.Dec.{T, eqb, leb, eqb·suc-zero, lit≤}
+use lib.ListN.{length, take}
 use lib.Seq.{length-take-le}
 use borrow.Author.Tests.{lt-ltb, le-ltb, leb-true, leb-false, le-leb, lt-leb, eqb-true, eq-eqb}
 use Rattle.decision.specs.Bounded.{every, onlyIf}
@@ -20,13 +20,13 @@ use Rattle.crc32c.specs.Crc.{ones, updates, crc, zeroed}
 use Rattle.crc32c.proofs.Laws.{updates-append, zeroed-append}
 use Rattle.vhdx_entry.specs.declared.Entry.{Entry}
 use Rattle.vhdx_entry.specs.Ring.{sectorAt}
-use Rattle.vhdx_entry.specs.Entry.{checksum, entryLength, tail, sequenceNumber, descriptorCount, descriptorSectors, descriptorStart, descriptor, descriptorRule, descriptorsRule, dataBefore, dataCount, size, fitsRule, entryLengthRule, dataSectorRule, dataSectorsRule, checksumRule, headerRule, validEntry, contents}
+use Rattle.vhdx_entry.specs.Entry.{checksum, entryLength, tail, sequenceNumber, descriptorCount, descriptorSectors, descriptor, descriptorRule, descriptorsRule, dataBefore, dataCount, size, fitsRule, entryLengthRule, dataSectorRule, dataSectorsRule, checksumRule, headerRule, validEntry, contents}
 use Rattle.vhdx_entry.proofs.Laws.{sector-next, field-of-sector}
 use Rattle.vhdx_pieces_entry.specs.Sector.{passes, dataIn}
 use Rattle.vhdx_pieces_entry.specs.declared.Reading.{Reading}
 use Rattle.vhdx_pieces_entry.specs.declared.Progress.{Progress}
 use Rattle.vhdx_pieces_entry.specs.declared.Progress.the-variants.{More, Valid, Empty}
-use Rattle.vhdx_pieces_entry.specs.Pass.{ended, front, sizeOf, closed, going, settled, fromOf, placesIn, here, stateOn, past, onFront, onData, further, beginning, first, Reads, stop, next, ReadsEntry}
+use Rattle.vhdx_pieces_entry.specs.Pass.{ended, closed, going, settled, fromOf, placesIn, stateOn, past, onFront, onData, further, beginning, first, Reads, stop, next, ReadsEntry}
 use Rattle.vhdx_pieces_entry.proofs.Split.{rules-split, data-split}
 
 left-no : (a b : Bool) → a ≡ false → a && b ≡ false

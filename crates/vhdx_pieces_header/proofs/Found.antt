@@ -12,16 +12,15 @@ use borrow.Author.Tests.{leb-true}
 use Rattle.decision.specs.Refusal.{check}
 use Rattle.field.specs.Fields.{starts}
 use Rattle.extent.specs.Extent.{MiB}
-use Rattle.vhdx_header.specs.Header.{validHeader, fieldRules, contents, sequenceNumber}
+use Rattle.vhdx_header.specs.Header.{validHeader, sequenceNumber}
 use Rattle.vhdx_header.specs.Current.{vhdxfile, slot1, slot2, headerAt, chosenSlot, currentSlot, readHeader, readSlot, readFirstMiB, withinImage, firstMiB, currentHeader}
 use Rattle.vhdx_header.specs.declared.Answer.{Answer}
-use Rattle.vhdx_header.specs.declared.Answer.the-variants.{Refused, Current}
+use Rattle.vhdx_header.specs.declared.Answer.the-variants.{Refused}
 use Rattle.vhdx_header.specs.declared.choice.Slot.{Slot}
 use Rattle.vhdx_header.specs.declared.choice.Slot.the-variants as slot
 use Rattle.vhdx_pieces_header.specs.declared.Stage.the-variants.{Identifier, First, Second}
-use Rattle.vhdx_pieces_header.specs.declared.Step.{Step}
 use Rattle.vhdx_pieces_header.specs.declared.Step.the-variants.{Read, Ended}
-use Rattle.vhdx_pieces_header.specs.Finding.{started, candidateOf, chosenBy, chosen, stepOf, Finds, stop, next, FindsHeader}
+use Rattle.vhdx_pieces_header.specs.Finding.{candidateOf, chosenBy, chosen, stepOf, Finds, stop, next, FindsHeader}
 
 -- ---- lists
 

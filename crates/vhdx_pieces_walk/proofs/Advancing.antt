@@ -3,12 +3,11 @@
 use mathlib.Core.Path.{_≡_, refl, sym, ap, _∙_, subst}
 use mathlib.Core.Bool.{Bool, true, false, cond}
 use mathlib.Core.List.{List}
-use Prim.Native.Nat.{ℕ, zero, suc, _+_, _-_, _*_, _/_, _%_, _≤_, _<_, min}
+use Prim.Native.Nat.{ℕ, zero, suc, _+_, _-_, _*_, _≤_, _<_}
 use native.Mathlib.Nat.{add-mul, mul-le-mul-right, mod-lt}
 use native.Mathlib.Omega.{arith}
-use lib.Dec.{eqb, leb, ltb}
-use borrow.Author.Tests.{ltb-true, ltb-false, eqb-true, eqb-false}
-use Rattle.vhdx_entry.specs.declared.ring.RingPos.{RingPos}
+use lib.Dec.{eqb, ltb}
+use borrow.Author.Tests.{ltb-true, ltb-false, eqb-false}
 use Rattle.vhdx_entry.specs.Ring.{advanced}
 use Rattle.vhdx_entry.specs.Entry.{descriptorSectors, isData, fileOffset, zeroLength}
 use Rattle.vhdx_pieces_entry.specs.Sector.{descriptorIn, lengthIn}
@@ -18,9 +17,9 @@ use Rattle.vhdx_pieces_walk.specs.declared.Stage.the-variants as stage
 use Rattle.vhdx_pieces_walk.specs.declared.Walker.{Walker}
 use Rattle.vhdx_pieces_walk.specs.declared.Step.{Step}
 use Rattle.vhdx_pieces_walk.specs.declared.Step.the-variants.{Read, Ended}
-use Rattle.vhdx_pieces_walk.specs.Walking.{staged, atHeader, started, resumed, idleFrom, pastBy, allowed, beyondBy, met, fromIn, hereIn, looked, opened, fits, stepIn, stepOf, wroteIn, wroteOf, Standing, Opened, ReadingIn, WritingIn, Onward, leftBehind, leftIn, leftOf, WalkAdvances, WalkStarts}
+use Rattle.vhdx_pieces_walk.specs.Walking.{atHeader, resumed, idleFrom, pastBy, allowed, met, fromIn, hereIn, looked, opened, fits, stepIn, stepOf, wroteIn, wroteOf, Standing, Opened, ReadingIn, WritingIn, Onward, leftBehind, leftIn, leftOf, WalkAdvances, WalkStarts}
 use Rattle.vhdx_pieces_walk.proofs.Allowed.{allowed-is, allowed-behind}
-use Rattle.vhdx_pieces_walk.proofs.Turns.{opened-staged, opened-past, opened-beyond, header-standing, opened-is, here-fits}
+use Rattle.vhdx_pieces_walk.proofs.Turns.{opened-staged, opened-past, opened-beyond, header-standing, opened-is}
 
 -- ---- descriptors that name nothing
 
@@ -55,11 +54,14 @@ idle-names s from j (suc m) h = go (eqb (lengthIn (descriptorIn s from j)) 0) re
 digit : (d a c x : ℕ) → a < c → x < d → a * d + x < c * d
 digit d a c x h l = omega (arith, add-mul a 1 d, mul-le-mul-right {m = a + 1} {n = c} d (omega arith))
 
--- behind a later descriptor less is left
-falls : (d l c i j : ℕ) → i ≤ j → (l + (c - j)) * d ≤ (l + (c - i)) * d
-falls d l c i j h = mul-le-mul-right {m = l + (c - j)} {n = l + (c - i)} d (omega arith)
-
 module _ (b : Bounds) where
+  falls : (w : Walker) (i : ℕ) → leftBehind b (pastBy w i) ≤ leftBehind b w
+  falls w i = mul-le-mul-right {m = (w .left - 1) * 4294967296 + (w .count - (w .index + i))} {n = (w .left - 1) * 4294967296 + (w .count - w .index)} (b .limit + 3) (omega arith)
+
+  -- past a descriptor less is left, with what its run asks for
+  less : (w : Walker) (i x : ℕ) → w .index < w .count → 0 < i → x < b .limit + 3 → leftBehind b (pastBy w i) + x < leftBehind b w
+  less w i x h k l = digit (b .limit + 3) _ _ x (omega arith) l
+
   -- it may go on, with less than k left
   abbrev Nearer : ℕ → ℕ → Step → Type 0
   Nearer n k st = Onward b n st × (leftOf b st < k)
@@ -88,18 +90,15 @@ module _ (b : Bounds) where
       (λ ok.
       chosen (w .pos .len) k (isData d) _ _
       (λ e. chosen (w .pos .len) k (ltb (descriptorSectors (w .count) + w .«data») (w .size)) _ _
-      (λ l. (((opened-beyond w (w .«data» + 1) _ o i (omega (arith, o .rank)), ltb-true _ _ l, sector-allowed e ok), refl), omega (arith, h, less 2 (omega arith))))
-      (λ _. (tt, omega (arith, h, less 0 (omega arith)))))
-      (λ _. (((opened-beyond w (w .«data») _ o i (omega (arith, o .rank)), names, ok), refl), omega (arith, h, less (lengthIn d) (omega (arith, allowed-is b (fileOffset d) (lengthIn d) ok .0))))))
-      (λ _. (tt, omega (arith, h, less 0 (omega arith))))
+      (λ l. (((opened-beyond w (w .«data» + 1) _ o i (omega (arith, o .rank)), ltb-true _ _ l, sector-allowed e ok), refl), omega (arith, h, less w 1 2 i (omega arith) (omega arith))))
+      (λ _. (tt, omega (arith, h, less w 1 0 i (omega arith) (omega arith)))))
+      (λ _. (((opened-beyond w (w .«data») _ o i (omega (arith, o .rank)), names, ok), refl), omega (arith, h, less w 1 (lengthIn d) i (omega arith) (omega (arith, allowed-is b (fileOffset d) (lengthIn d) ok .0))))))
+      (λ _. (tt, omega (arith, h, less w 1 0 i (omega arith) (omega arith))))
     where
-      less : (x : ℕ) → x < b .limit + 3 → ((w .left - 1) * 4294967296 + (w .count - (w .index + 1))) * (b .limit + 3) + x < leftBehind b w
-      less x l = digit (b .limit + 3) _ _ x (omega arith) l
-
       sector-allowed : isData d ≡ true → allowed b (fileOffset d) (lengthIn d) ≡ true → allowed b (fileOffset d) 4096 ≡ true
       sector-allowed e ok = ap (λ (t : Bool). allowed b (fileOffset d) (cond t 4096 (zeroLength d))) (sym e) ∙ ok
 
-  -- of the sector's descriptors some may be left, all of them or none
+  -- k is more than what is left behind the sector's descriptors, of which none may name bytes
   nearer-looked : (w : Walker) (s : List ℕ) (k : ℕ) → Opened w → leftBehind b w ≤ k → leftBehind b (pastBy w (hereIn w)) < k → Nearer (w .pos .len) k (looked b w s)
   unfolding looked
   nearer-looked w s k o h l =
@@ -111,11 +110,10 @@ module _ (b : Bounds) where
       let c : i < hereIn w = ltb-true _ _ e in
       let names = subst (λ (x : ℕ). 0 < lengthIn (descriptorIn s (fromIn w) x)) {x = 0 + i} {y = i} (omega arith) (idle-names s (fromIn w) 0 (hereIn w) c) in
       nearer-met (pastBy w i) (descriptorIn s (fromIn w) i) k at (omega arith) names
-      (omega (arith, h, falls (b .limit + 3) ((w .left - 1) * 4294967296) (w .count) (w .index) (w .index + i) (omega arith))))
+      (omega (arith, h, falls w i)))
       (λ e.
       let c : hereIn w ≤ i = ltb-false _ _ e in
-      nearer-resumed (pastBy w i) k at
-      (omega (arith, l, falls (b .limit + 3) ((w .left - 1) * 4294967296) (w .count) (w .index + hereIn w) (w .index + i) (omega arith))))
+      nearer-resumed (pastBy w i) k at (subst (λ (x : ℕ). leftBehind b (pastBy w x) < k) {x = hereIn w} {y = i} (omega arith) l))
 
   nearer-header : (w : Walker) (s : List ℕ) → Standing w → Nearer (w .pos .len) (leftIn b w stage.Header) (stepIn b w stage.Header s)
   nearer-header w s st =
@@ -124,7 +122,7 @@ module _ (b : Bounds) where
       let o = opened-is w s (opened w s) st refl f in
       let entry : leftBehind b (opened w s) < leftIn b w stage.Header = omega (arith, digit (b .limit + 3) ((w .left - 1) * 4294967296 + (opened w s .count - 0)) (w .left * 4294967296) 0 (omega (arith, o .small, st .some)) (omega arith)) in
       nearer-looked (opened w s) s (leftIn b w stage.Header) o (omega arith)
-      (omega (arith, entry, falls (b .limit + 3) ((w .left - 1) * 4294967296) (opened w s .count) 0 (0 + hereIn (opened w s)) (omega arith))))
+      (omega (arith, entry, falls (opened w s) (hereIn (opened w s)))))
       (λ _. (tt, omega (arith, digit (b .limit + 3) 0 (w .left * 4294967296) 0 (omega (arith, st .some)) (omega arith))))
 
   nearer-read : (w : Walker) (s : List ℕ) (st : Stage) → ReadingIn b w st → Nearer (w .pos .len) (leftIn b w st) (stepIn b w st s)
@@ -132,7 +130,7 @@ module _ (b : Bounds) where
   nearer-read w s stage.Descriptors h =
       let some : 0 < hereIn w = omega (arith, h .1) in
       nearer-looked w s (leftBehind b w) (h .0) (omega arith)
-      (omega (arith, digit (b .limit + 3) ((w .left - 1) * 4294967296 + (w .count - (w .index + hereIn w))) ((w .left - 1) * 4294967296 + (w .count - w .index)) 0 (omega (arith, h .1, some)) (omega arith)))
+      (omega (arith, less w (hereIn w) 0 (h .1) some (omega arith)))
   nearer-read w s (stage.Data d) h = (((opened-staged w (stage.Sector d) (h .0), h .2), refl), omega arith)
   nearer-read w s (stage.Sector d) h = absurd h
   nearer-read w s (stage.Zeros e) h = absurd h
@@ -156,10 +154,10 @@ walk-advances b w p = (nearer-read b w p (w .stage), nearer-wrote b w (w .stage)
 pub walk-starts : WalkStarts
 walk-starts b pos left on few bounded = go (eqb left 0) refl
   where
-    go : (t : Bool) → eqb left 0 ≡ t → Onward b (pos .len) (cond t Ended (Read (atHeader pos left))) × (leftOf b (cond t Ended (Read (atHeader pos left))) ≤ 4503599627370496 * (b .limit + 3))
+    go : (t : Bool) → eqb left 0 ≡ t → Onward b (pos .len) (cond t Ended (Read (atHeader pos left))) × (leftOf b (cond t Ended (Read (atHeader pos left))) ≤ 1048576 * 4294967296 * (b .limit + 3))
     go true e = (tt, omega arith)
     go false e =
         let no : ¬ (left ≡ 0) = eqb-false left 0 e in (
           (header-standing pos left (on (omega (arith, no))) few (omega (arith, no)) bounded, refl),
-          mul-le-mul-right {m = left * 4294967296} {n = 4503599627370496} (b .limit + 3) (omega arith),
+          mul-le-mul-right {m = left * 4294967296} {n = 1048576 * 4294967296} (b .limit + 3) (omega arith),
         )

@@ -2,17 +2,16 @@
 -- Assumes nothing.
 use mathlib.Core.Path.{_≡_, refl, sym, ap, _∙_, subst}
 use mathlib.Core.Bool.{Bool, true, false, not, _&&_, _||_, and-eq-true-iff}
-use mathlib.Core.List.{List, [], _∷_, _++_}
-use Prim.Native.Nat.{ℕ, zero, suc, _+_, _-_, _*_, _/_, _%_, _≤_, _<_}
+use mathlib.Core.List.{List, [], _++_}
+use Prim.Native.Nat.{ℕ, suc, _+_, _-_, _*_, _/_, _%_, _≤_, _<_}
 use native.Mathlib.Decide.{decLt}
 use native.Mathlib.Omega.{arith}
-use lib.Dec.{T, eqb, leb, ltb}
+use lib.Dec.{T, eqb}
 use lib.ListN.{length, take, drop, length-append, length-drop, length-replicate}
 use lib.Seq.{length-take-le}
-use borrow.Author.Tests.{leb-true, eqb-true, le-leb, eq-eqb, lt-ltb, not-true}
+use borrow.Author.Tests.{leb-true, eqb-true, le-leb, eq-eqb, not-true}
 use Rattle.field.specs.Fields.{leBytes}
 use Rattle.field.proofs.Bytes.{le-bytes-long}
-use Rattle.extent.specs.declared.Extent.{Extent}
 use Rattle.extent.specs.Extent.{MiB, inside, shares}
 use Rattle.extent.proofs.Laws.{share}
 use Rattle.vhdx_walk.specs.Entries.{sectorsAt, zeroSector}
@@ -21,7 +20,6 @@ use Rattle.vhdx_log.proofs.Lies.{lies-whole}
 use Rattle.vhdx_pieces_walk.specs.declared.Bounds.{Bounds}
 use Rattle.vhdx_pieces_walk.specs.declared.Stage.{Stage}
 use Rattle.vhdx_pieces_walk.specs.declared.Stage.the-variants as stage
-use Rattle.vhdx_pieces_walk.specs.declared.Walker.{Walker}
 use Rattle.vhdx_pieces_walk.specs.Walking.{allowed, writtenIn, WritingIn, Apart, WritesApart}
 
 pub none-of : (x y : Bool) → (x || y) ≡ false → (x ≡ false) × (y ≡ false)

@@ -1,28 +1,22 @@
 -- What the code's tests decide, and an entry's bounds as a walker moves in it.
 -- Assumes nothing.
-use mathlib.Core.Path.{_≡_, refl, sym, ap, ap₂, _∙_, subst}
-use mathlib.Core.Bool.{Bool, true, false, not, cond, _&&_, and-eq-true-iff}
+use mathlib.Core.Path.{_≡_, sym, ap, ap₂, _∙_}
+use mathlib.Core.Bool.{Bool, true, false, cond, and-eq-true-iff}
 use mathlib.Core.List.{List}
 use Prim.Native.Nat.{ℕ, zero, suc, _+_, _-_, _*_, _/_, _%_, _≤_, _<_, min}
-use native.Mathlib.Numerals.{add-one}
 use native.Mathlib.Omega.{arith}
 use lib.Dec.{eqb, leb, ltb}
 use lib.ListN.{take, drop}
-use borrow.Author.Tests.{leb-true, eq-eqb, ne-eqb, lt-ltb, le-ltb}
-use Rattle.extent.specs.declared.Extent.{Extent}
-use Rattle.extent.specs.Extent.{inside}
+use borrow.Author.Tests.{leb-true, lt-ltb, le-ltb}
 use Rattle.vhdx_entry.specs.declared.ring.RingPos.{RingPos}
-use Rattle.vhdx_entry.specs.Ring.{advanced}
 use Rattle.vhdx_entry.specs.Entry.{descriptorSectors, isData, fileOffset}
-use Rattle.vhdx_log.specs.Work.{lies}
 use Rattle.vhdx_pieces_entry.specs.Sector.{descriptorIn, lengthIn}
 use Rattle.vhdx_pieces_walk.specs.declared.Bounds.{Bounds}
-use Rattle.vhdx_pieces_walk.specs.declared.Held.{Held}
 use Rattle.vhdx_pieces_walk.specs.declared.Stage.{Stage}
 use Rattle.vhdx_pieces_walk.specs.declared.Stage.the-variants as stage
 use Rattle.vhdx_pieces_walk.specs.declared.Walker.{Walker}
 use Rattle.vhdx_pieces_walk.specs.declared.Step.{Step}
-use Rattle.vhdx_pieces_walk.specs.declared.Step.the-variants.{Read, Write, Ended, Broken}
+use Rattle.vhdx_pieces_walk.specs.declared.Step.the-variants.{Read, Write, Broken}
 use Rattle.vhdx_pieces_walk.specs.Walking.{staged, atHeader, resumed, idleFrom, pastBy, allowed, beyondBy, heldIn, met, fromIn, hereIn, lookedAt, looked, opened, fits, stepIn, stepOf, Standing, Opened}
 
 pub opened-staged : (w : Walker) (s : Stage) → Opened w → Opened (staged w s)

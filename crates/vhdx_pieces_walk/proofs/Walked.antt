@@ -1,43 +1,39 @@
 -- Fed the log's sectors, the walk ends, having written the sectors of all descriptors in order.
 -- Assumes nothing.
 use mathlib.Core.Path.{_≡_, refl, sym, ap, ap₂, _∙_, subst}
-use mathlib.Core.Bool.{Bool, true, false, not, cond, _&&_, _||_}
+use mathlib.Core.Bool.{Bool, true, false, cond}
 use mathlib.Core.List.{List, [], _∷_, _++_}
-use Prim.Native.Nat.{ℕ, zero, suc, _+_, _-_, _*_, _/_, _%_, _≤_, _<_, min, max}
+use Prim.Native.Nat.{ℕ, zero, suc, _+_, _-_, _*_, _/_, _%_, _≤_, _<_}
 use native.Mathlib.Nat.{add-zero, mod-eq-of-lt, mod-lt}
-use native.Mathlib.Numerals.{add-one}
 use native.Mathlib.Decide.{decLt}
 use native.Mathlib.Omega.{arith}
-use lib.Dec.{T, eqb, leb, ltb}
+use lib.Dec.{eqb, ltb}
 use lib.ListN.{length, take, drop, length-drop}
 use lib.Seq.{length-take-le}
-use borrow.Author.Tests.{lt-ltb, le-ltb, le-leb, eq-eqb, ne-eqb, eqb-true, eqb-false}
-use Rattle.field.specs.Fields.{leBytes, Bytes, field}
+use borrow.Author.Tests.{lt-ltb, le-ltb, le-leb, ne-eqb, eqb-true, eqb-false}
+use Rattle.field.specs.Fields.{Bytes}
 use Rattle.field.proofs.Bytes.{bytes-append, bytes-take, bytes-drop, bytes-field}
-use Rattle.extent.specs.declared.Extent.{Extent}
-use Rattle.extent.specs.Extent.{inside}
 use Rattle.vhdx_entry.specs.declared.ring.RingPos.{RingPos}
 use Rattle.vhdx_entry.specs.Ring.{sectorCount, ring, sectorAt, On}
-use Rattle.vhdx_entry.specs.Entry.{descriptor, descriptorCount, descriptorSectors, descriptorStart, isData, fileOffset, zeroLength, entryLength, size, dataCount, behind, dataBefore, dataSector, leadingBytes, trailingBytes}
+use Rattle.vhdx_entry.specs.Entry.{descriptor, descriptorCount, descriptorSectors, isData, fileOffset, zeroLength, size, behind, dataBefore, dataSector}
 use Rattle.vhdx_entry.proofs.Laws.{sector-on, first-field, data-more}
 use Rattle.vhdx_walk.specs.Entries.{Descriptor, writes, zeros, Sector, sectorsAt, zeroSector, sectorsOf, sectors, end, furthest}
 use Rattle.vhdx_walk.specs.Bytes.{descriptorOf, descriptorsFrom, sectorBytes}
 use Rattle.vhdx_walk.specs.Cursor.{descriptorsOn, Readable, AllReadable}
-use Rattle.vhdx_walk.proofs.Parts.{zeros-whole, descriptors-fit, data-rank, same-length, size-within, size-read}
-use Rattle.vhdx_walk.proofs.Moves.{on-descriptor, on-entry, on-done}
-use Rattle.vhdx_log.specs.Work.{lies, someLies}
+use Rattle.vhdx_walk.proofs.Parts.{zeros-whole, descriptors-fit, data-rank, size-within, size-read}
+use Rattle.vhdx_walk.proofs.Moves.{on-descriptor, on-entry}
+use Rattle.vhdx_log.specs.Work.{someLies}
 use Rattle.vhdx_log.proofs.Lies.{lies-append}
 use Rattle.vhdx_pieces_entry.specs.Sector.{descriptorIn, lengthIn}
 use Rattle.vhdx_pieces_entry.proofs.Split.{in-sector}
 use Rattle.vhdx_pieces_walk.specs.declared.Bounds.{Bounds}
-use Rattle.vhdx_pieces_walk.specs.declared.Held.{Held}
 use Rattle.vhdx_pieces_walk.specs.declared.Stage.{Stage}
 use Rattle.vhdx_pieces_walk.specs.declared.Stage.the-variants as stage
 use Rattle.vhdx_pieces_walk.specs.declared.Walker.{Walker}
 use Rattle.vhdx_pieces_walk.specs.declared.Step.{Step}
 use Rattle.vhdx_pieces_walk.specs.declared.Step.the-variants.{Read, Write, Ended, Broken}
 use Rattle.vhdx_pieces_walk.specs.Walking as walking
-use Rattle.vhdx_pieces_walk.specs.Walking.{staged, atHeader, started, wantedOf, resumed, idleFrom, pastBy, allowed, beyondBy, heldIn, met, fromIn, hereIn, lookedAt, looked, opened, fits, stepOf, wroteOf, writtenOf, Writes, WritesAll}
+use Rattle.vhdx_pieces_walk.specs.Walking.{staged, atHeader, started, resumed, idleFrom, pastBy, allowed, beyondBy, heldIn, met, fromIn, hereIn, lookedAt, looked, opened, fits, stepOf, wroteOf, writtenOf, Writes, WritesAll}
 use Rattle.vhdx_pieces_walk.proofs.Allowed.{none-of, allowed-run}
 use Rattle.vhdx_pieces_walk.proofs.Turns.{idle-stop, idle-more, met-data, met-zeros}
 

@@ -6,12 +6,11 @@ use mathlib.Core.Path.{_≡_}
 use Prim.Native.Nat.{ℕ, zero, suc, _+_, _-_, _*_, _/_, _%_, _≤_, _<_, min}
 use lib.Dec.{eqb, leb, ltb}
 use lib.ListN.{length, take, drop}
-use Rattle.extent.specs.declared.Extent.{Extent}
 use Rattle.extent.specs.Extent.{MiB, inside, shares}
 use Rattle.field.specs.Fields.{leBytes, Bytes, field}
 use Rattle.vhdx_entry.specs.declared.ring.RingPos.{RingPos}
 use Rattle.vhdx_entry.specs.Ring.{sectorSize, sectorCount, sectorAt, advanced}
-use Rattle.vhdx_entry.specs.Entry.{isData, fileOffset, zeroLength, descriptorCount, descriptorSectors, entryLength}
+use Rattle.vhdx_entry.specs.Entry.{isData, fileOffset, descriptorCount, descriptorSectors, entryLength}
 use Rattle.vhdx_walk.specs.Entries.{Sector, sectors, furthest, zeroSector}
 use Rattle.vhdx_walk.specs.Cursor.{descriptorsOn, AllReadable}
 use Rattle.vhdx_log.specs.Work.{lies, someLies}
@@ -197,7 +196,7 @@ WritesApart =
 
 -- ---- how much is left
 
--- of the descriptors behind the one in hand, an entry counted for 2^32 of them, and each of them for more than a run has bytes
+-- from the next descriptor on, where an entry counts as 2^32 descriptors, and a descriptor as more than the bytes of its run
 abbrev pub leftBehind : Bounds → Walker → ℕ
 leftBehind b w = ((w .left - 1) * 4294967296 + (w .count - w .index)) * (b .limit + 3)
 
@@ -227,7 +226,7 @@ WalkAdvances =
 abbrev pub WalkStarts : Type 0
 WalkStarts =
     (b : Bounds) (pos : RingPos) (left : ℕ) → (0 < left → pos .at < pos .len) → pos .len < 1048576 → left ≤ pos .len
-    → Onward b (pos .len) (started pos left) × (leftOf b (started pos left) ≤ 4503599627370496 * (b .limit + 3))
+    → Onward b (pos .len) (started pos left) × (leftOf b (started pos left) ≤ 1048576 * 4294967296 * (b .limit + 3))
 
 -- fed the sectors of a log that it wants, with p read last, it ends, having written these
 pub data Writes (log : List ℕ) (b : Bounds) : List ℕ → Step → List Sector → Type 0 where

@@ -6,7 +6,7 @@ use vhdx_entry::header;
 use vhdx_entry::ring::RingPos;
 use vhdx_pieces_entry::sector as bytes;
 ghost use mathlib.Core.Path.{_≡_};
-ghost use Prim.Native.Nat.{_+_, _*_, _≤_, _<_, min};
+ghost use Prim.Native.Nat.{_+_, _*_, _≤_, _<_};
 ghost use lib.ListN.{length};
 ghost use Rattle.vhdx_pieces_walk.specs.Walking.{Opened, SaneReading, SaneWriting, Onward, wantedOf, started, staged, resumed, idleFrom, pastBy, allowed, beyondBy, met, looked, opened as openedOf, stepOf, wroteOf};
 

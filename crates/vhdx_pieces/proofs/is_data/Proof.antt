@@ -1,7 +1,6 @@
 -- `vhdx_pieces::is_data` meets its contract.
 -- Assumes nothing.
 use mathlib.Core.Path.{sym, ap, _∙_}
-use Rattle.vhdx_pieces.specs.declared.Machine.{Machine}
 use Rattle.vhdx_pieces.specs.Machines.{isDataOf}
 use borrow.Author.Needs.{needs}
 use Rattle.vhdx_pieces.proofs.is_data.Statement.{statement}

@@ -1,6 +1,6 @@
 -- `vhdx_pieces::next` meets its contract.
 -- Assumes nothing.
-use mathlib.Core.Path.{_≡_, refl, sym, ap, _∙_, subst}
+use mathlib.Core.Path.{sym, ap, _∙_, subst}
 use Prim.Native.Nat.{ℕ}
 use native.Mathlib.Omega.{arith}
 use Rattle.vhdx_pieces_walk.specs.Walking as walking
@@ -23,7 +23,10 @@ next-requires-2 : tie.Need-next-requires-2
 next-requires-2 c κs = (subst Sane (c .before .before .before .before .m3 .given .1) (c .before .before .before .before .before .before .before .pre .0) .1, c .before .before .before .before .before .before .before .pre .1 ∙ ap (λ (x : Machine). wantedOf x .length) (c .before .before .before .before .m3 .given .1))
 
 walk-turn-requires : tie.Need-walk-turn-requires
-walk-turn-requires c κs = let s = subst Sane (c .before .before .before .before .before .m3 .given .1) (c .before .before .before .before .before .before .before .before .pre .0) in (s .0, subst (λ (n : ℕ). walking.Onward (boundsOf (c .before .before .before .before .before .m3 .given .0 .0 .order)) n (c .next2 .result)) (s .2) (c .next2 .ensures .1))
+walk-turn-requires c κs =
+    let b = boundsOf (c .before .before .before .before .before .m3 .given .0 .0 .order) in
+    let s = subst Sane (c .before .before .before .before .before .m3 .given .1) (c .before .before .before .before .before .before .before .before .pre .0) in
+    (s .0, subst (λ (n : ℕ). walking.Onward b n (c .next2 .result)) (s .2) (c .next2 .ensures .1))
 
 wrote-requires : tie.Need-wrote-requires
 wrote-requires c κs =

@@ -1,6 +1,6 @@
 -- `vhdx_pieces::plan_turn` meets its contract.
 -- Assumes nothing.
-use mathlib.Core.Path.{_≡_, refl, sym, ap, _∙_, subst}
+use mathlib.Core.Path.{sym, ap, _∙_, subst}
 use Rattle.vhdx_pieces_plan.specs.Planning.{Kept}
 use Rattle.vhdx_pieces.specs.Machines.{planned}
 use borrow.Author.Needs.{needs}

@@ -1,6 +1,6 @@
 -- `vhdx_pieces::start` meets its contract.
 -- Assumes nothing.
-use mathlib.Core.Path.{_≡_, refl, sym, ap, _∙_, subst}
+use mathlib.Core.Path.{ap, _∙_}
 use Rattle.vhdx_pieces.specs.Machines.{planned}
 use borrow.Author.Needs.{needs}
 use Rattle.vhdx_pieces.proofs.start.Statement.{statement}

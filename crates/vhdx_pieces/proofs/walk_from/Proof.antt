@@ -1,7 +1,7 @@
 -- `vhdx_pieces::walk_from` meets its contract.
 -- Assumes nothing.
-use mathlib.Core.Path.{_≡_, refl, sym, ap, _∙_, subst}
-use Prim.Native.Nat.{ℕ, _<_}
+use mathlib.Core.Path.{ap, _∙_, subst}
+use Prim.Native.Nat.{ℕ}
 use native.Mathlib.Omega.{arith}
 use Rattle.vhdx_pieces_walk.specs.Walking as walking
 use Rattle.vhdx_pieces.specs.Machines.{boundsOf, walked, walkFrom}

@@ -1,7 +1,6 @@
 -- `vhdx_pieces::walk_turn` meets its contract.
 -- Assumes nothing.
-use mathlib.Core.Path.{_≡_, refl, sym, ap, ap₂, _∙_, subst}
-use Prim.Native.Nat.{ℕ}
+use mathlib.Core.Path.{sym, ap, _∙_, subst}
 use borrow.Author.Tests.{eq-eqb, ne-eqb}
 use Rattle.vhdx_pieces_plan.specs.Planning.{sectorsOf}
 use Rattle.vhdx_pieces_walk.specs.Walking.{Onward}

@@ -1,11 +1,9 @@
 -- `vhdx_pieces::wanted` meets its contract.
 -- Assumes nothing.
-use mathlib.Core.Path.{_≡_, refl, sym, ap, _∙_, subst}
-use Prim.Native.Nat.{ℕ, _≤_}
+use mathlib.Core.Path.{sym, ap, _∙_, subst}
 use native.Mathlib.Omega.{arith}
 use Rattle.extent.specs.declared.Extent.{Extent}
 use Rattle.vhdx_pieces_plan.specs.Planning.{sectorIn}
-use Rattle.vhdx_pieces.specs.declared.Machine.{Machine}
 use Rattle.vhdx_pieces.specs.Machines.{boundsOf, wantedOf, Sane}
 use borrow.Author.Needs.{needs}
 use Rattle.vhdx_pieces.proofs.wanted.Statement.{statement}

@@ -1,7 +1,5 @@
 -- `vhdx_pieces::write_turn` meets its contract.
 -- Assumes nothing.
-use mathlib.Core.Path.{_≡_, refl, sym, ap, _∙_, subst}
-use native.Mathlib.Omega.{arith}
 use borrow.Author.Tests.{lt-ltb, le-ltb}
 use borrow.Author.Needs.{needs}
 use Rattle.vhdx_pieces.proofs.write_turn.Statement.{statement}

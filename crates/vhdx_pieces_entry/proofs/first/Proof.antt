@@ -1,8 +1,7 @@
 -- `vhdx_pieces_entry::first` meets its contract.
 -- Assumes nothing.
-use mathlib.Core.Path.{_≡_, sym, _∙_, subst, ap}
-use native.Mathlib.Omega.{arith}
-use Rattle.vhdx_pieces_entry.specs.Pass.{Kept, first}
+use mathlib.Core.Path.{_∙_}
+use Rattle.vhdx_pieces_entry.specs.Pass.{first}
 use Rattle.vhdx_pieces_entry.proofs.Keeping.{first-taken, first-left, first-sane, with-kept, kept-first}
 use borrow.Author.Needs.{needs}
 use Rattle.vhdx_pieces_entry.proofs.first.Statement.{statement}

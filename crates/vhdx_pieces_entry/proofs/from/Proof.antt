@@ -1,7 +1,6 @@
 -- `vhdx_pieces_entry::from` meets its contract.
 -- Assumes nothing.
 use borrow.Author.Tests.{eq-eqb, ne-eqb}
-use borrow.Author.Needs.{needs}
 use Rattle.vhdx_pieces_entry.proofs.from.Statement.{statement}
 use Rattle.vhdx_pieces_entry.proofs.from.Tie as tie
 

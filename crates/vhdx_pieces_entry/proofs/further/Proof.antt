@@ -1,6 +1,6 @@
 -- `vhdx_pieces_entry::further` meets its contract.
 -- Assumes nothing.
-use mathlib.Core.Path.{_≡_, sym, _∙_, subst, ap}
+use mathlib.Core.Path.{_∙_}
 use borrow.Author.Tests.{lt-ltb, le-ltb}
 use Rattle.vhdx_pieces_entry.specs.Pass.{further}
 use Rattle.vhdx_pieces_entry.proofs.Keeping.{with-kept, kept-further, on-front-further, on-data-further}

@@ -1,11 +1,9 @@
 -- `vhdx_pieces_entry::on_front` meets its contract.
 -- Assumes nothing.
-use mathlib.Core.Path.{_≡_, sym, _∙_, subst, ap}
+use mathlib.Core.Path.{sym, _∙_, subst}
 use native.Mathlib.Omega.{arith}
-use Prim.Native.Nat.{ℕ, _≤_}
-use Rattle.vhdx_pieces_entry.specs.Sector.{dataIn}
 use Rattle.vhdx_pieces_entry.specs.Pass.{onFront, Sized}
-use Rattle.vhdx_pieces_entry.proofs.Keeping.{past-sized, few-data, fits-here, told, broken, whole}
+use Rattle.vhdx_pieces_entry.proofs.Keeping.{past-sized, fits-here, told, broken, whole}
 use borrow.Author.Needs.{needs}
 use Rattle.vhdx_pieces_entry.proofs.on_front.Statement.{statement}
 use Rattle.vhdx_pieces_entry.proofs.on_front.Tie as tie

@@ -1,7 +1,6 @@
 -- `vhdx_pieces_header::next` meets its contract.
 -- Assumes nothing.
-use mathlib.Core.Path.{sym, _∙_, ap}
-use Rattle.vhdx_pieces_header.specs.declared.Stage.{Stage}
+use mathlib.Core.Path.{_∙_, ap}
 use Rattle.vhdx_pieces_header.specs.Finding.{sizeOf, stepOf}
 use borrow.Author.Needs.{needs}
 use Rattle.vhdx_pieces_header.proofs.next.Statement.{statement}

@@ -1,6 +1,5 @@
 -- `vhdx_pieces_header::offset` meets its contract.
 -- Assumes nothing.
-use native.Mathlib.Omega.{arith}
 use lib.Dec.{lit≤}
 use mathlib.Core.Path.{refl}
 use borrow.Author.Needs.{needs}

@@ -1,6 +1,5 @@
 -- `vhdx_pieces_header::start` meets its contract.
 -- Assumes nothing.
-use borrow.Author.Needs.{needs}
 use Rattle.vhdx_pieces_header.proofs.start.Statement.{statement}
 use Rattle.vhdx_pieces_header.proofs.start.Tie as tie
 

@@ -1,6 +1,6 @@
 -- `vhdx_pieces_walk::look` meets its contract.
 -- Assumes nothing.
-use mathlib.Core.Path.{_≡_, refl, sym, ap, ap₂, _∙_, subst}
+use mathlib.Core.Path.{_≡_, sym, ap, _∙_, subst}
 use native.Mathlib.Omega.{arith}
 use Rattle.vhdx_pieces_walk.specs.declared.Walker.{Walker}
 use Rattle.vhdx_pieces_walk.specs.Walking.{Opened}

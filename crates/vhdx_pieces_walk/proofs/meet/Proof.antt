@@ -1,17 +1,10 @@
 -- `vhdx_pieces_walk::meet` meets its contract.
 -- Assumes nothing.
-use mathlib.Core.Path.{_≡_, refl, sym, ap, ap₂, _∙_, subst}
-use mathlib.Core.Bool.{Bool, true, false}
+use mathlib.Core.Path.{sym, ap₂, _∙_}
 use Prim.Native.Nat.{ℕ, _+_, _<_}
 use native.Mathlib.Omega.{arith}
-use lib.Dec.{ltb}
 use borrow.Author.Tests.{lt-ltb, le-ltb}
-use Rattle.extent.specs.declared.Extent.{Extent}
 use Rattle.vhdx_entry.specs.Entry.{descriptorSectors}
-use Rattle.vhdx_pieces_walk.specs.declared.Step.{Step}
-use Rattle.vhdx_pieces_walk.specs.declared.Step.the-variants.{Read, Write}
-use Rattle.vhdx_pieces_walk.specs.declared.Stage.the-variants as stage
-use Rattle.vhdx_pieces_walk.specs.declared.Walker.{Walker}
 use Rattle.vhdx_pieces_walk.specs.Walking.{allowed}
 use Rattle.vhdx_pieces_walk.proofs.Turns.{met-nothing, met-zeros, met-data, met-short}
 use borrow.Author.Needs.{needs}

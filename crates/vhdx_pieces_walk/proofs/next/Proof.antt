@@ -1,10 +1,9 @@
 -- `vhdx_pieces_walk::next` meets its contract.
 -- Assumes nothing.
-use mathlib.Core.Path.{_≡_, refl, sym, ap, ap₂, _∙_, subst}
+use mathlib.Core.Path.{_≡_, sym, ap, _∙_, subst}
 use mathlib.Core.Bool.{Bool, true, false, _&&_}
 use mathlib.Core.List.{List}
 use Prim.Native.Nat.{ℕ}
-use native.Mathlib.Omega.{arith}
 use lib.Dec.{leb}
 use Rattle.vhdx_entry.specs.Entry.{descriptorSectors}
 use Rattle.vhdx_pieces_walk.specs.declared.Bounds.{Bounds}

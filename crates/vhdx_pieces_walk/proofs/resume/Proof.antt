@@ -1,7 +1,5 @@
 -- `vhdx_pieces_walk::resume` meets its contract.
 -- Assumes nothing.
-use mathlib.Core.Path.{refl}
-use native.Mathlib.Omega.{arith}
 use borrow.Author.Tests.{lt-ltb, le-ltb}
 use Rattle.vhdx_pieces_walk.specs.Walking.{resumed}
 use borrow.Author.Needs.{needs}

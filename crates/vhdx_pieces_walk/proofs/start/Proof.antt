@@ -4,7 +4,6 @@ use mathlib.Core.Path.{refl}
 use native.Mathlib.Omega.{arith}
 use borrow.Author.Tests.{eq-eqb, ne-eqb}
 use Rattle.vhdx_pieces_walk.proofs.Turns.{header-standing}
-use borrow.Author.Needs.{needs}
 use Rattle.vhdx_pieces_walk.proofs.start.Statement.{statement}
 use Rattle.vhdx_pieces_walk.proofs.start.Tie as tie
 

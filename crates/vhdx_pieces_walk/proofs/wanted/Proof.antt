@@ -1,14 +1,11 @@
 -- `vhdx_pieces_walk::wanted` meets its contract.
 -- Assumes nothing.
-use mathlib.Core.Path.{_≡_, sym, ap, _∙_, subst}
-use Prim.Native.Nat.{_+_, _*_, _/_, _<_}
+use mathlib.Core.Path.{sym, ap, _∙_, subst}
+use Prim.Native.Nat.{ℕ, _+_}
 use native.Mathlib.Omega.{arith}
 use Rattle.vhdx_entry.specs.declared.ring.RingPos.{RingPos}
 use Rattle.vhdx_entry.specs.Ring.{advanced}
-use Rattle.vhdx_entry.specs.Entry.{descriptorSectors}
-use Rattle.vhdx_pieces_walk.specs.declared.Stage.{Stage}
 use Rattle.vhdx_pieces_walk.specs.Walking.{ReadingIn, wantedIn}
-use Prim.Native.Nat.{ℕ}
 use borrow.Author.Needs.{needs}
 use Rattle.vhdx_pieces_walk.proofs.wanted.Statement.{statement}
 use Rattle.vhdx_pieces_walk.proofs.wanted.Tie as tie
