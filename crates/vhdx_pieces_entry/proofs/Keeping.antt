@@ -19,7 +19,7 @@ use Rattle.vhdx_pieces_entry.specs.declared.Reading.{Reading}
 use Rattle.vhdx_pieces_entry.specs.declared.Progress.{Progress}
 use Rattle.vhdx_pieces_entry.specs.declared.Progress.the-variants.{More, Valid, Empty}
 use Rattle.vhdx_pieces_entry.specs.Sector.{descriptorIn, passes, dataIn}
-use Rattle.vhdx_pieces_entry.specs.Pass.{front, sizeOf, closed, going, settled, fromOf, here, past, onFront, onData, further, beginning, first, Sized, Sane, Kept}
+use Rattle.vhdx_pieces_entry.specs.Pass.{front, sizeOf, closed, settled, fromOf, here, past, onFront, onData, further, beginning, first, Sized, Sane, Kept}
 use Rattle.vhdx_pieces_entry.proofs.Laws.{chosen}
 
 pub few-data : (s : List ℕ) (from m : ℕ) → dataIn s from m ≤ m
@@ -127,9 +127,6 @@ read-first guid n s =
     chosen (Read (0 + 1)) (headerRule guid (n * 4096) s && leb (descriptorSectors (descriptorCount s)) n) _ _ (λ _. read-front n (beginning s) s) (λ _. tt)
 
 -- ---- what the code's tests decide
-
-pub with-kept : (n : ℕ) {p q : Progress} → p ≡ q → Kept n q → (p ≡ q) × Kept n p
-with-kept n e k = (e, subst (Kept n) (sym e) k)
 
 -- the descriptors of a sector lie in it
 pub fits-here : (x : Reading) {from m : ℕ} → from ≡ fromOf (x .read) → m ≡ here x → from + 32 * m ≤ 4096
