@@ -128,9 +128,6 @@ read-first guid n s =
 
 -- ---- what the code's tests decide
 
-pub with-kept : (n : ℕ) {p q : Progress} → p ≡ q → Kept n q → (p ≡ q) × Kept n p
-with-kept n e k = (e, subst (Kept n) (sym e) k)
-
 -- the descriptors of a sector lie in it
 pub fits-here : (x : Reading) {from m : ℕ} → from ≡ fromOf (x .read) → m ≡ here x → from + 32 * m ≤ 4096
 fits-here x {from} {m} p q = go (eqb (x .read) 0) p q

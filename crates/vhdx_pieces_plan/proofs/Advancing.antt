@@ -1,6 +1,6 @@
 -- Whatever is fed, a planner keeps to its bounds, and asks for less.
 -- Assumes nothing.
-use mathlib.Core.Path.{_≡_, refl, sym, subst}
+use mathlib.Core.Path.{_≡_, refl, subst}
 use mathlib.Core.Bool.{Bool, true, false, not, _&&_, and-eq-true-iff}
 use mathlib.Core.List.{List}
 use Prim.Native.Nat.{ℕ, _+_, _*_, _≤_, _<_, max}
@@ -38,11 +38,10 @@ use Rattle.vhdx_pieces_survey.proofs.Advancing.{survey-advances, survey-starts}
 use Rattle.vhdx_pieces_plan.specs.declared.Context.{Context}
 use Rattle.vhdx_pieces_plan.specs.declared.Phase.{Phase}
 use Rattle.vhdx_pieces_plan.specs.declared.Phase.the-variants as phase
-use Rattle.vhdx_pieces_plan.specs.declared.Planner.{Planner}
 use Rattle.vhdx_pieces_plan.specs.declared.Outcome.the-variants.{Refused}
 use Rattle.vhdx_pieces_plan.specs.declared.Step.{Step}
 use Rattle.vhdx_pieces_plan.specs.declared.Step.the-variants.{Ended}
-use Rattle.vhdx_pieces_plan.specs.Planning.{sectorsOf, judged, toured, sought, scanned, withLog, contextOf, answered, headed, stepIn, stepOf, Bounded, SaneIn, Sane, Ordered, Kept, scanMost, surveyMost, planMost, leftIn, leftOf, PlanAdvances, PlanStarts}
+use Rattle.vhdx_pieces_plan.specs.Planning.{sectorsOf, judged, toured, sought, scanned, withLog, contextOf, answered, headed, stepIn, stepOf, Bounded, SaneIn, Ordered, Kept, scanMost, surveyMost, planMost, leftIn, leftOf, PlanAdvances, PlanStarts}
 
 -- as `chosen`, of a test that refuses where it fails
 checked : {A : Type 0} (P : A → Type 0) (b : Bool) (x y : A) → P x → (b ≡ true → P y) → P (check b x y)
@@ -151,10 +150,6 @@ steps c (phase.Survey s) p h =
 pub plan-advances : PlanAdvances
 unfolding stepOf
 plan-advances x p h = steps (x .context) (x .phase) p h
-
--- an answer that is the step
-pub kept-on : (x : Planner) (p : List ℕ) {r : Step} → Sane x → r ≡ stepOf x p → (r ≡ stepOf x p) × Kept (x .context .length) r
-kept-on x p h e = (e, subst (Kept (x .context .length)) (sym e) (plan-advances x p h .0))
 
 pub plan-starts : PlanStarts
 plan-starts n capacity few =

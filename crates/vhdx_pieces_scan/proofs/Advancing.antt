@@ -1,6 +1,6 @@
 -- Whatever is fed, a scanner keeps to its bounds, and asks for less.
 -- Assumes nothing.
-use mathlib.Core.Path.{_≡_, refl, sym, subst}
+use mathlib.Core.Path.{refl}
 use mathlib.Core.Bool.{_&&_, and-eq-true-iff}
 use mathlib.Core.List.{List}
 use Prim.Native.Nat.{ℕ, _+_, _-_, _*_, _≤_, _<_}
@@ -16,9 +16,8 @@ use Rattle.vhdx_pieces_entry.proofs.Laws.{chosen, falls}
 use Rattle.vhdx_pieces_entry.proofs.Keeping.{kept-first, kept-further, Read, read-first, read-further}
 use Rattle.vhdx_pieces_scan.specs.declared.Stage.{Stage}
 use Rattle.vhdx_pieces_scan.specs.declared.Stage.the-variants.{First, Inside, Tail}
-use Rattle.vhdx_pieces_scan.specs.declared.Scanner.{Scanner}
 use Rattle.vhdx_pieces_scan.specs.declared.Step.{Step}
-use Rattle.vhdx_pieces_scan.specs.Scanning.{placeAt, traceOf, resumed, progressed, stepIn, stepOf, Upright, Staged, Sane, Onward, leftAt, leftOf, ScanAdvances, ScanStarts}
+use Rattle.vhdx_pieces_scan.specs.Scanning.{placeAt, traceOf, resumed, progressed, stepIn, stepOf, Upright, Staged, Onward, leftAt, leftOf, ScanAdvances, ScanStarts}
 use Rattle.vhdx_pieces_scan.proofs.Turns.{run-behind}
 
 -- over n sectors it may be fed again, less than m being left
@@ -63,10 +62,6 @@ unfolding stepOf
 scan-advances guid s p h =
     let k = h .upright in
     steps (s .place .pos .len) (k .few) (s .place .count) (stateOf (s .trace)) (k .behind) (k .laps) guid (s .stage) p (h .staged)
-
--- an answer that is the step
-pub onward : (guid : Guid) (s : Scanner) (p : List ℕ) {r : Step} → Sane s → r ≡ stepOf guid s p → (r ≡ stepOf guid s p) × Onward (s .place .pos .len) r
-onward guid s p h e = (e, subst (Onward (s .place .pos .len)) (sym e) (scan-advances guid s p h .0))
 
 pub scan-starts : ScanStarts
 scan-starts n few =

@@ -1,6 +1,6 @@
 -- Whatever is fed, a tour keeps to its bounds, and asks for less.
 -- Assumes nothing.
-use mathlib.Core.Path.{_≡_, refl, sym, ap, _∙_, subst}
+use mathlib.Core.Path.{_≡_, refl, ap, _∙_, subst}
 use mathlib.Core.Bool.{Bool, true, cond, and-eq-true-iff}
 use mathlib.Core.List.{List}
 use Prim.Native.Nat.{ℕ, zero, suc, _+_, _-_, _*_, _≤_, _<_, min}
@@ -9,7 +9,6 @@ use native.Mathlib.Numerals.{add-one}
 use native.Mathlib.Omega.{arith}
 use lib.Dec.{eqb, leb, ltb, eqb·suc-zero}
 use borrow.Author.Tests.{leb-true, ltb-true, eqb-true, eqb-false}
-use Rattle.extent.specs.declared.Extent.{Extent}
 use Rattle.vhdx_entry.specs.declared.ring.RingPos.{RingPos}
 use Rattle.vhdx_entry.specs.Ring.{advanced}
 use Rattle.vhdx_entry.specs.Entry.{descriptorSectors}
@@ -93,10 +92,6 @@ survey-advances e t s h =
     (λ f. let x = moves (opened t s) _ (opened-is t s (h .standing) f) (omega (arith, h .short)) in (x .0, omega (arith, x .1)))
     (λ _. (tt, omega (arith, h .short))))
     (λ z. moves t _ (h .inside (omega (arith, eqb-false (t .read) 0 z)) .0) (h .short))
-
--- an answer that is the step
-pub onward : (e : Extent) (t : Tour) (s : List ℕ) {r : Step} → Sane t → r ≡ stepOf e t s → (r ≡ stepOf e t s) × Onward (t .pos .len) r
-onward e t s h q = (q, subst (Onward (t .pos .len)) (sym q) (survey-advances e t s h .0))
 
 pub survey-starts : SurveyStarts
 survey-starts pos more on few l =

@@ -1,8 +1,9 @@
 -- `vhdx_pieces_entry::first` meets its contract.
 -- Assumes nothing.
 use mathlib.Core.Path.{_∙_}
-use Rattle.vhdx_pieces_entry.specs.Pass.{first}
-use Rattle.vhdx_pieces_entry.proofs.Keeping.{first-taken, first-left, first-sane, with-kept, kept-first}
+use Rattle.vhdx_pieces_entry.specs.Pass.{Kept}
+use Rattle.vhdx_pieces_entry.proofs.Laws.{also}
+use Rattle.vhdx_pieces_entry.proofs.Keeping.{first-taken, first-left, first-sane, kept-first}
 use borrow.Author.Needs.{needs}
 use Rattle.vhdx_pieces_entry.proofs.first.Statement.{statement}
 use Rattle.vhdx_pieces_entry.proofs.first.Tie as tie
@@ -15,13 +16,13 @@ on-front-requires c κs =
 returns : tie.Need-returns
 returns c =
     let a = c .before .before .before .before .before .before .before .args in
-    with-kept (a .n) (c .on-front .ensures ∙ first-taken (a .guid) (a .n) (a .s .now) (c .before .before .before .before .before .descriptor-count .ensures .0) (c .before .before .before .before .sectors .ensures) (c .before .before .before .keeps-rules .ensures) (c .before .before .if1 .taken) (c .before .begin .ensures .0))
+    also (Kept (a .n)) (c .on-front .ensures ∙ first-taken (a .guid) (a .n) (a .s .now) (c .before .before .before .before .before .descriptor-count .ensures .0) (c .before .before .before .before .sectors .ensures) (c .before .before .before .keeps-rules .ensures) (c .before .before .if1 .taken) (c .before .begin .ensures .0))
     (kept-first (a .guid) (a .n) (a .s .now) (c .before .before .before .before .before .before .before .pre .1))
 
 returns-2 : tie.Need-returns-2
 returns-2 c =
     let a = c .before .before .before .before .before .args in
-    with-kept (a .n) (first-left (a .guid) (a .n) (a .s .now) (c .before .before .before .descriptor-count .ensures .0) (c .before .before .sectors .ensures) (c .before .keeps-rules .ensures) (c .if1 .left))
+    also (Kept (a .n)) (first-left (a .guid) (a .n) (a .s .now) (c .before .before .before .descriptor-count .ensures .0) (c .before .before .sectors .ensures) (c .before .keeps-rules .ensures) (c .if1 .left))
     (kept-first (a .guid) (a .n) (a .s .now) (c .before .before .before .before .before .pre .1))
 
 pub first-spec : {M : Type 1} → statement M

@@ -1,9 +1,10 @@
 -- `vhdx_pieces_plan::next` meets its contract.
 -- Assumes nothing.
 use mathlib.Core.Path.{sym, ap, _∙_, subst}
+use Rattle.vhdx_pieces_entry.proofs.Laws.{also}
 use Rattle.vhdx_pieces_plan.specs.declared.Phase.{Phase}
-use Rattle.vhdx_pieces_plan.specs.Planning.{wantedIn, SaneIn, headed, scanned, toured, stepIn, stepOf}
-use Rattle.vhdx_pieces_plan.proofs.Advancing.{kept-on}
+use Rattle.vhdx_pieces_plan.specs.Planning.{wantedIn, SaneIn, Kept, headed, scanned, toured, stepIn, stepOf}
+use Rattle.vhdx_pieces_plan.proofs.Advancing.{plan-advances}
 use borrow.Author.Needs.{needs}
 use Rattle.vhdx_pieces_plan.proofs.next.Statement.{statement}
 use Rattle.vhdx_pieces_plan.proofs.next.Tie as tie
@@ -38,27 +39,30 @@ unfolding stepOf
 returns c =
     let a = c .before .before .before .before .before .before .before .args in
     let p = a .p in
-    kept-on p (a .piece .now) (c .before .before .before .before .before .before .before .pre .0)
+    also (Kept (p .context .length))
     (c .header-turn .ensures ∙ ap (headed (p .context .length) (p .context .capacity)) (c .before .next .ensures)
     ∙ sym (ap (λ (x : Phase). stepIn (p .context) x (a .piece .now)) (c .before .before .before .phase .given .1)))
+    (plan-advances p (a .piece .now) (c .before .before .before .before .before .before .before .pre .0) .0)
 
 returns-2 : tie.Need-returns-2
 unfolding stepOf
 returns-2 c =
     let a = c .before .before .before .before .before .before .before .before .args in
     let p = a .p in
-    kept-on p (a .piece .now) (c .before .before .before .before .before .before .before .before .pre .0)
+    also (Kept (p .context .length))
     (c .scan-turn .ensures ∙ ap (scanned (p .context)) (c .before .next2 .ensures .0)
     ∙ sym (ap (λ (x : Phase). stepIn (p .context) x (a .piece .now)) (c .before .before .before .before .phase2 .given .1)))
+    (plan-advances p (a .piece .now) (c .before .before .before .before .before .before .before .before .pre .0) .0)
 
 returns-3 : tie.Need-returns-3
 unfolding stepOf
 returns-3 c =
     let a = c .before .before .before .before .before .before .before .before .before .before .args in
     let p = a .p in
-    kept-on p (a .piece .now) (c .before .before .before .before .before .before .before .before .before .before .pre .0)
+    also (Kept (p .context .length))
     (c .survey-turn .ensures ∙ ap (toured (p .context) _) (c .before .next3 .ensures .0)
     ∙ sym (ap (λ (x : Phase). stepIn (p .context) x (a .piece .now)) (c .before .before .before .before .before .before .phase3 .given .1)))
+    (plan-advances p (a .piece .now) (c .before .before .before .before .before .before .before .before .before .before .pre .0) .0)
 
 pub next-spec : {M : Type 1} → statement M
 next-spec =

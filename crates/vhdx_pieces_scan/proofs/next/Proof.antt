@@ -3,9 +3,10 @@
 use mathlib.Core.Path.{sym, ap, _∙_, subst}
 use native.Mathlib.Omega.{arith}
 use Rattle.vhdx_sequence.specs.Scan.{stateOf}
+use Rattle.vhdx_pieces_entry.proofs.Laws.{also}
 use Rattle.vhdx_pieces_scan.specs.declared.Stage.{Stage}
-use Rattle.vhdx_pieces_scan.specs.Scanning.{Staged, progressed, stepIn, stepOf}
-use Rattle.vhdx_pieces_scan.proofs.Advancing.{onward}
+use Rattle.vhdx_pieces_scan.specs.Scanning.{Staged, Onward, progressed, stepIn, stepOf}
+use Rattle.vhdx_pieces_scan.proofs.Advancing.{scan-advances}
 use borrow.Author.Needs.{needs}
 use Rattle.vhdx_pieces_scan.proofs.next.Statement.{statement}
 use Rattle.vhdx_pieces_scan.proofs.next.Tie as tie
@@ -35,27 +36,30 @@ unfolding stepOf
 returns c =
     let a = c .before .before .before .before .before .before .before .args in
     let s = a .s in
-    onward (a .guid) s (a .sector .now) (c .before .before .before .before .before .before .before .pre .0)
+    also (Onward (s .place .pos .len))
     (c .progress .ensures ∙ ap (progressed (s .place .pos .len) (s .place .count) (stateOf (s .trace))) (c .before .first .ensures .0)
     ∙ sym (ap (λ (x : Stage). stepIn (a .guid) (s .place .pos .len) (s .place .count) (stateOf (s .trace)) x (a .sector .now)) (c .before .before .enum-told .given .1)))
+    (scan-advances (a .guid) s (a .sector .now) (c .before .before .before .before .before .before .before .pre .0) .0)
 
 returns-2 : tie.Need-returns-2
 unfolding stepOf
 returns-2 c =
     let a = c .before .before .before .before .before .before .before .before .args in
     let s = a .s in
-    onward (a .guid) s (a .sector .now) (c .before .before .before .before .before .before .before .before .pre .0)
+    also (Onward (s .place .pos .len))
     (c .progress2 .ensures ∙ ap (progressed (s .place .pos .len) (s .place .count) (stateOf (s .trace))) (c .before .further .ensures .0)
     ∙ sym (ap (λ (x : Stage). stepIn (a .guid) (s .place .pos .len) (s .place .count) (stateOf (s .trace)) x (a .sector .now)) (c .before .before .before .stage .given .1)))
+    (scan-advances (a .guid) s (a .sector .now) (c .before .before .before .before .before .before .before .before .pre .0) .0)
 
 returns-3 : tie.Need-returns-3
 unfolding stepOf
 returns-3 c =
     let a = c .before .before .before .before .before .before .before .args in
     let s = a .s in
-    onward (a .guid) s (a .sector .now) (c .before .before .before .before .before .before .before .pre .0)
+    also (Onward (s .place .pos .len))
     (c .take .ensures
     ∙ sym (ap (λ (x : Stage). stepIn (a .guid) (s .place .pos .len) (s .place .count) (stateOf (s .trace)) x (a .sector .now)) (c .before .before .stage2 .given .1)))
+    (scan-advances (a .guid) s (a .sector .now) (c .before .before .before .before .before .before .before .pre .0) .0)
 
 pub next-spec : {M : Type 1} → statement M
 next-spec =

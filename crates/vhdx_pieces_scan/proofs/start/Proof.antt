@@ -1,6 +1,6 @@
 -- `vhdx_pieces_scan::start` meets its contract.
 -- Assumes nothing.
-use mathlib.Core.Path.{sym, subst}
+use Rattle.vhdx_pieces_entry.proofs.Laws.{also}
 use Rattle.vhdx_pieces_scan.specs.Scanning.{Onward}
 use Rattle.vhdx_pieces_scan.proofs.Turns.{asked-fresh, resumed-fresh}
 use Rattle.vhdx_pieces_scan.proofs.Advancing.{scan-starts}
@@ -14,8 +14,8 @@ resume-requires c κs = asked-fresh (c .new .result) (c .before .pre) (c .new .e
 returns : tie.Need-returns
 returns c =
     let n = c .before .before .args .n in
-    let e = resumed-fresh (c .before .new .result) (c .before .new .ensures .0) (c .before .new .ensures .1 .1) (c .resume .ensures) in
-    (e, subst (Onward n) (sym e) (scan-starts n (c .before .before .pre) .0))
+    also (Onward n) (resumed-fresh (c .before .new .result) (c .before .new .ensures .0) (c .before .new .ensures .1 .1) (c .resume .ensures))
+    (scan-starts n (c .before .before .pre) .0)
 
 pub start-spec : {M : Type 1} → statement M
 start-spec =

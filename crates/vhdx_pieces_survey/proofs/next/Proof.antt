@@ -7,10 +7,11 @@ use native.Mathlib.Omega.{arith}
 use lib.Dec.{leb}
 use borrow.Author.Tests.{eq-eqb, ne-eqb}
 use Rattle.vhdx_entry.specs.Entry.{descriptorSectors}
+use Rattle.vhdx_pieces_entry.proofs.Laws.{also}
 use Rattle.vhdx_pieces_survey.specs.declared.Tour.{Tour}
-use Rattle.vhdx_pieces_survey.specs.Touring.{fits, Opened}
+use Rattle.vhdx_pieces_survey.specs.Touring.{fits, Opened, Onward}
 use Rattle.vhdx_pieces_survey.proofs.Turns.{inside-turn, header-turn, broken-turn}
-use Rattle.vhdx_pieces_survey.proofs.Advancing.{opened-is, onward}
+use Rattle.vhdx_pieces_survey.proofs.Advancing.{opened-is, survey-advances}
 use borrow.Author.Needs.{needs}
 use Rattle.vhdx_pieces_survey.proofs.next.Statement.{statement}
 use Rattle.vhdx_pieces_survey.proofs.next.Tie as tie
@@ -33,9 +34,10 @@ returns : tie.Need-returns
 returns c =
     let a = c .before .before .before .before .before .before .before .before .before .args in
     let o = c .before .before .before .before .before .opened in
-    onward (a .log) (a .t) (a .sector .now) (c .before .before .before .before .before .before .before .before .before .pre .0)
+    also (Onward (a .t .pos .len))
     (header-turn (a .log) (a .t) (a .sector .now) (o .result) (eq-eqb _ _ (c .before .before .before .before .before .before .if1 .taken)) (o .ensures .0)
     (tested (o .result) true (c .before .before .before .before .sectors .ensures) (c .before .if2 .taken)) (c .pass .ensures))
+    (survey-advances (a .log) (a .t) (a .sector .now) (c .before .before .before .before .before .before .before .before .before .pre .0) .0)
 
 returns-2 : tie.Need-returns-2
 returns-2 c =
@@ -46,8 +48,9 @@ returns-2 c =
 returns-3 : tie.Need-returns-3
 returns-3 c =
     let a = c .before .before .before .before .args in
-    onward (a .log) (a .t) (a .sector .now) (c .before .before .before .before .pre .0)
+    also (Onward (a .t .pos .len))
     (inside-turn (a .log) (a .t) (a .sector .now) (ne-eqb _ _ (c .before .if1 .left)) (c .pass2 .ensures))
+    (survey-advances (a .log) (a .t) (a .sector .now) (c .before .before .before .before .pre .0) .0)
 
 pub next-spec : {M : Type 1} → statement M
 next-spec =
