@@ -1,1 +1,3 @@
 pub mod Faithfully
+pub mod Advancing
+pub mod Answering

@@ -3,11 +3,11 @@
 use mathlib.Core.Bool.{Bool, false, cond}
 use mathlib.Core.List.{List}
 use mathlib.Core.Path.{_≡_}
-use Prim.Native.Nat.{ℕ, _-_}
+use Prim.Native.Nat.{ℕ, suc, _+_, _-_, _*_, _<_}
 use lib.Dec.{eqb, ltb}
 use Rattle.decision.specs.Refusal.{check}
 use Rattle.extent.specs.declared.Extent.{Extent}
-use Rattle.vhdx_walk.specs.Entries.{Sector}
+use Rattle.vhdx_walk.specs.Entries.{Sector, lengthLimit}
 use Rattle.vhdx_pieces_plan.specs.declared.Order.{Order}
 use Rattle.vhdx_pieces_plan.specs.declared.Outcome.{Outcome}
 use Rattle.vhdx_pieces_plan.specs.declared.Outcome.the-variants as outcome
@@ -100,3 +100,26 @@ Kept (Grow m) = Sane m
 Kept (Write m) = Sane m
 Kept (Done w) = Unit {0}
 Kept (Refused c) = Unit {0}
+
+-- ---- how many requests it still makes, at most
+
+-- of the work on a log of fewer than 2^20 sectors, an entry with fewer than 2^32 descriptors
+abbrev pub workMost : ℕ
+workMost = 1048576 * 4294967296 * (lengthLimit + 3)
+
+abbrev pub leftIn : Machine → ℕ
+leftIn (Planning p) = planning.leftOf (planStep.Read p) + suc workMost
+leftIn (Growing o) = suc workMost
+leftIn (Reading d) = walking.leftOf (boundsOf (d .order)) (walkStep.Read (d .walker))
+leftIn (Writing d) = walking.leftOf (boundsOf (d .order)) (walkStep.Write (d .walker))
+
+abbrev pub leftOf : Turn → ℕ
+leftOf (Read m) = leftIn m
+leftOf (Grow m) = leftIn m
+leftOf (Write m) = leftIn m
+leftOf (Done w) = 0
+leftOf (Refused c) = 0
+
+-- whatever is fed, it may be fed again, and less is left
+abbrev pub MachineAdvances : Type 0
+MachineAdvances = (m : Machine) (p : List ℕ) → Sane m → Kept (stepOf m p) × (leftOf (stepOf m p) < leftIn m)
