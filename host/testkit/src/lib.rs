@@ -1,10 +1,11 @@
 //! What tests and benchmarks share: the proved functions with their answers taken apart, images with a pending log and the model
-//! of their replay and of closing them, what interrupted calls leave, causes of refusals, disks for lookups, random numbers,
-//! programs that tests run and the JSON that they print, and measuring.
+//! of their replay and of closing them, what interrupted calls leave, causes of refusals, disks for lookups, files drawn at
+//! random, programs that tests run and the JSON that they print, and measuring.
 pub mod api;
 pub mod causes;
 pub mod closing;
 pub mod command;
+pub mod drawn;
 pub mod interrupted;
 pub mod json;
 pub mod measure;
