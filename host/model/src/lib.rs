@@ -30,7 +30,7 @@ pub use extent::Extent;
 pub use file::File;
 pub use lookup::{lookup, parent_key};
 pub use pieces::{listing, End, Pieces, Request};
-pub use work::{plan, plan_of, Plan, Sector};
+pub use work::{current_log, plan, plan_of, Plan, Sector};
 
 /// What the tables say of a disk.
 #[derive(Debug, PartialEq, Eq, Clone, Copy, Default)]

@@ -117,6 +117,14 @@ pub fn plan_of(file: File, capacity: u64) -> Result<Plan, u64> {
     Ok(active.plan(final_length as u64, header.log))
 }
 
+/// The log that the current header states, where there is one. Whether it keeps the header's rules is not judged.
+pub fn current_log(file: File) -> Option<Extent> {
+    if file.length() < MIB {
+        return None;
+    }
+    Header::current(&file.part(FIRST_MIB)).map(|header| header.log)
+}
+
 /// The active sequence: its log and its entries. "Log identifier zero: no active sequence."
 #[derive(Default)]
 struct Active<'a> {

@@ -34,26 +34,30 @@ impl Damage {
         self.bases[0].image.clone()
     }
 
-    /// Draws a file with a log, and damages it, or now and then not.
-    pub fn draw<'a>(&'a self, random: &mut Random, image: &'a mut Image) -> Damaged<'a> {
+    /// Draws a file with a log, or now and then none.
+    pub fn sound<'a>(&'a self, random: &mut Random, image: &'a mut Image) -> Damaged<'a> {
         let chosen = random.below(self.bases.len() as u64) as usize;
         let base = &self.bases[chosen];
         let capacity = capacity(random, base);
         let draw = Draw { base, capacity };
-        let mut case = Case::new(random, image, draw, &self.fields[chosen]);
-        for _ in 0..random.pick(&[0, 1, 1, 1, 1, 2, 2, 3]) {
-            case.damage(random);
-        }
-        let length = match random.below(8) {
-            0 => other_length(random, base.image.length, capacity),
-            _ => base.image.length,
-        };
         Damaged {
             base,
-            case,
+            case: Case::new(random, image, draw, &self.fields[chosen]),
             capacity,
-            length,
+            length: base.image.length,
         }
+    }
+
+    /// The same, damaged, or now and then not.
+    pub fn draw<'a>(&'a self, random: &mut Random, image: &'a mut Image) -> Damaged<'a> {
+        let mut drawn = self.sound(random, image);
+        for _ in 0..random.pick(&[0, 1, 1, 1, 1, 2, 2, 3]) {
+            drawn.case.damage(random);
+        }
+        if random.one_in(8) {
+            drawn.length = other_length(random, drawn.length, drawn.capacity);
+        }
+        drawn
     }
 }
 
@@ -96,7 +100,8 @@ impl<'a> Case<'a> {
         }
     }
 
-    fn damage(&mut self, random: &mut Random) {
+    /// Damages the file once more.
+    pub fn damage(&mut self, random: &mut Random) {
         let field = match random.below(16) {
             0 => self.spoil_bytes(random),
             1 => self.copy_sector(random),
