@@ -220,6 +220,7 @@ mod tests {
         assert_eq!(refused(longest(128 * TIB + 1), u64::MAX), 8);
         assert_eq!(refused(longest(u64::MAX), u64::MAX), 8);
         assert_eq!(refused(longest(u64::MAX), u64::MAX - 1), 1);
+        assert_eq!(listing(longest(128 * TIB)), "3145728 Z\n3149824 Z\n");
         assert_eq!(listing(longest(128 * TIB + 1)), "refused 1\n");
     }
 

@@ -91,11 +91,11 @@ impl Machine {
     pub fn is_none(&self) -> bool {
         let mut copy = self.clone();
         copy.piece.fill(0xa7);
-        let (_, answer) = raw::pieces_next(&mut copy.numbers, &mut copy.piece);
+        let (refusal, answer) = raw::pieces_next(&mut copy.numbers, &mut copy.piece);
         if answer[0] != 5 {
             return false;
         }
-        assert_eq!(answer, [5, 0, 0, 0]);
+        assert_eq!((refusal, answer), (0, [5, 0, 0, 0]));
         assert_eq!(copy.numbers, self.numbers, "left as they were");
         assert!(copy.piece.iter().all(|&b| b == 0xa7), "left as it was");
         true

@@ -179,6 +179,22 @@ fn rings_that_sequences_fill() {
 }
 
 #[test]
+fn the_shortest_files() {
+    // a log of no bytes lies at the end of the first MiB
+    let image = Image::new(MIB + 1, M, 0, [0; 16]);
+    for length in [0, 1, M - 1, M, M + 1] {
+        let expected = match length {
+            M.. => End::Done { length, count: 0 },
+            _ => End::Refused(1),
+        };
+        for capacity in [length, length + 1, M + 1] {
+            let end = assert_as_attach(&image.buffer, length, capacity);
+            assert_eq!(end, Some(expected), "{length} in {capacity}");
+        }
+    }
+}
+
+#[test]
 fn files_that_no_memory_holds() {
     let descriptors = [
         data(128 * TIB - 8192, pattern(1)),

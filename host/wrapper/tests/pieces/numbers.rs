@@ -8,7 +8,7 @@ use shrunvaki_testkit::model::{self, File};
 use shrunvaki_testkit::pieces::{read_at, Answer, End, Machine, LONGEST};
 use shrunvaki_testkit::random::Random;
 
-const CASES: u64 = 20_000;
+const CASES: u64 = 5_000;
 const CAPACITY: u64 = 1 << 40;
 
 /// A machine with the request that it made last.
@@ -128,10 +128,10 @@ fn alter(random: &mut Random, numbers: &mut raw::Machine) {
     }
 }
 
-/// Feeds a machine with a file's bytes, and with zeros where the file has none. It has to end, or at least to write.
-fn go_on(machine: &mut Machine, bytes: &[u8], first: Request) -> Option<End> {
+/// Feeds a machine with a file's bytes, and with zeros where the file has none. Whether it ends, as far as anybody waits for it:
+/// altered numbers may stand for a long ring or for much to write.
+fn ends(machine: &mut Machine, bytes: &[u8], first: Request) -> bool {
     let mut piece = vec![0; LONGEST];
-    let (mut reads, mut writes) = (0, 0);
     let mut length = match first {
         Request::Read { offset, length } => {
             read_at(bytes, offset, &mut piece[..length]);
@@ -139,25 +139,26 @@ fn go_on(machine: &mut Machine, bytes: &[u8], first: Request) -> Option<End> {
         }
         _ => 0,
     };
-    loop {
+    for _ in 0..20_000 {
         length = match machine.next(&piece[..length]) {
             Answer::Read { offset, length } => {
                 read_at(bytes, offset, &mut piece[..length]);
-                reads += 1;
-                assert!(reads < 200_000, "nothing but reads: {:?}", machine.numbers);
                 length
             }
-            Answer::Work(_) => {
-                (reads, writes) = (0, writes + 1);
-                if writes > 2_000 {
-                    return None;
-                }
-                0
-            }
-            Answer::End(end) => return Some(end),
+            Answer::Work(_) => 0,
+            Answer::End(_) => return true,
             Answer::NoMachine => panic!("became none: {:?}", machine.numbers),
         };
     }
+    false
+}
+
+/// How many of the altered machines were none, ended, and did not while anybody waited.
+#[derive(Default, Debug)]
+struct Met {
+    none: u64,
+    ended: u64,
+    unfinished: u64,
 }
 
 /// Altered numbers are no machine's, or make a machine that goes on and ends. What that asks for is its own affair.
@@ -165,7 +166,7 @@ fn go_on(machine: &mut Machine, bytes: &[u8], first: Request) -> Option<End> {
 fn altered_numbers() {
     let samples = pending();
     let machines: Vec<Vec<Kept>> = samples.iter().map(every_machine).collect();
-    let (mut none, mut ended) = (0, 0);
+    let mut met = Met::default();
     let all = seeds::each(1..=CASES, |random| {
         let chosen = random.below(samples.len() as u64) as usize;
         let kept = &machines[chosen][random.below(machines[chosen].len() as u64) as usize];
@@ -175,14 +176,15 @@ fn altered_numbers() {
         let is_none = machine.is_none();
         let made = Pieces::from_numbers(&numbers, kept.request, &kept.sector);
         assert_eq!(made.is_err(), is_none, "{numbers:?}");
-        if is_none {
-            none += 1;
-        } else if go_on(&mut machine, samples[chosen].bytes(), kept.request).is_some() {
-            ended += 1;
-        }
+        *match is_none {
+            true => &mut met.none,
+            false if ends(&mut machine, samples[chosen].bytes(), kept.request) => &mut met.ended,
+            false => &mut met.unfinished,
+        } += 1;
     });
-    println!("{none} are none, {ended} ended");
+    println!("{met:?}");
     if all {
-        assert!(none >= CASES / 20, "{none}");
+        assert!(met.none >= CASES / 20, "{met:?}");
+        assert!(met.unfinished <= CASES / 10, "{met:?}");
     }
 }
