@@ -3,13 +3,15 @@
  *
  * An image is the first `length` bytes of a buffer of `capacity` bytes. The buffer is the caller's before, during and after every
  * call: nothing is kept, allocated or freed, and no file is opened. Attach, close and their steps write inside the buffer alone,
- * beside their answer. During a call nobody else may write to the buffer, nor read it while one of these runs. Arrays share no byte
- * with the buffer, and no pointer is null. All else may be anything, every number and every byte: a call answers, or refuses by a
- * number.
+ * beside their answer. During a call nobody else may write to the buffer, nor read it while one of these runs; so it is with the
+ * machine and the piece of the log's work in pieces. Arrays share no byte with the buffer or with each other, and no pointer is null.
+ * All else may be anything, every number and every byte: a call answers, or refuses by a number.
  *
  * A file: read it into a buffer with space for what its log grows it by, call shrunvaki_vhdx_attach, and go on with the length in
  * its answer. The log stays in the file and is not marked as applied: attaching again does the same work and gives the same, until
  * shrunvaki_vhdx_close closes the log. examples/attach.c attaches. Link target/staticlib/libcapi.a, which `rt staticlib capi` writes.
+ *
+ * A file that no buffer holds: shrunvaki_vhdx_pieces_start and _next do the log's work 64 KiB at a time.
  */
 #ifndef SHRUNVAKI_H
 #define SHRUNVAKI_H
@@ -26,6 +28,7 @@ extern "C" {
  * numbers that applies:
  *
  *   1 to 8   attach, plan, close, their steps   no byte is changed
+ *            pieces                             nothing was asked before but reads, unless the file changed meanwhile
  *   9 to 15  attach                             the log is applied, and every fact is zero
  *  16 to 20  lookup                             nothing is ever written
  *  21, 22    the steps                          no byte is changed
@@ -145,6 +148,44 @@ uint64_t shrunvaki_vhdx_close(uint8_t *buffer, size_t capacity, uint64_t length,
  */
 uint64_t shrunvaki_vhdx_close_step(uint8_t *buffer, size_t capacity, uint64_t length, const uint8_t identifier[16], uint64_t k,
                                    uint64_t answer[2]);
+
+/* What the log's work in pieces asks for: its answer[0]. */
+enum {
+    SHRUNVAKI_PIECES_REFUSED = 0,    /* [1] the refusal's number, 1 to 8 */
+    SHRUNVAKI_PIECES_READ = 1,       /* bytes of the file: [1] their offset, [2] how many, from 1 to 65,536 */
+    SHRUNVAKI_PIECES_GROW = 2,       /* that the file is made longer, with zeros: [1] the final length */
+    SHRUNVAKI_PIECES_WRITE = 3,      /* that 4,096 bytes are written: [1] their offset; [2] 1 of a data, 0 of a zero descriptor */
+    SHRUNVAKI_PIECES_DONE = 4,       /* [1] the final length, [2] the count of sectors that were written */
+    SHRUNVAKI_PIECES_NO_MACHINE = 5, /* no machine has these numbers */
+    SHRUNVAKI_PIECES_NUMBERS = 64,   /* of a machine */
+    SHRUNVAKI_PIECES_LONGEST = 65536 /* piece, in bytes */
+};
+
+/*
+ * Starts the log's work in pieces: what attach does to a file's bytes before it reads its tables, for a file that no buffer holds.
+ * The file has `length` bytes and may grow to `capacity`, which is not allocated and may be any number. The machine is an array of
+ * the caller's, whose numbers have no meaning outside; it may be copied, and kept anywhere between two calls.
+ *
+ * Returns the refusal's number or 0. answer[0] says what is asked (SHRUNVAKI_PIECES_READ and so on), [1] and [2] with what numbers;
+ * what is not said to hold a number is 0, and so is [3]. Do what is asked, then call shrunvaki_vhdx_pieces_next. After _REFUSED and
+ * _DONE nothing more is asked, and every number of the machine is 0.
+ */
+uint64_t shrunvaki_vhdx_pieces_start(uint64_t length, uint64_t capacity, uint64_t machine[64], uint64_t answer[4]);
+
+/*
+ * Says that what was asked is there or done, and answers what is asked next, as shrunvaki_vhdx_pieces_start does. After _READ the
+ * piece begins with the bytes of the file that were asked for, as many as were asked for; after any other request what it holds does
+ * not count. With _WRITE the call has put the 4,096 bytes to write at its start; otherwise what it leaves there means nothing.
+ *
+ * Growth is asked at most once and before any write, the sectors in the order in which attach writes them, zeros too. The first MiB
+ * and the log are never written. Where the file gave the same bytes throughout, all that is asked is what attach does, with the same
+ * refusals 1 to 8, and a refusal comes before growth and writes. Where it changed between two pieces, the work still ends: no more is
+ * written than was planned, nothing past the final length, and a log that does not read as it did is refused by 5, also after writes.
+ *
+ * Numbers that no machine has are answered by _NO_MACHINE, with 0 returned, and the machine and the piece are left as they were. All
+ * zeros are such numbers: nothing comes after the end.
+ */
+uint64_t shrunvaki_vhdx_pieces_next(uint64_t machine[64], uint8_t piece[65536], uint64_t answer[4]);
 
 /*
  * Says where a sector of the disk is (a sector of the logical sector size). `facts` is attach's answer, of which slots 3 to 15

@@ -1,10 +1,11 @@
-//! VHDX attach, step, close, lookup and parent key in ordinary Rust, written from documents 01 and 02 alone: what tests hold the
-//! proved library to, and what benchmarks measure it against. It follows the documents' definitions and shares nothing with the
-//! library. No input makes it panic.
+//! VHDX attach, step, close, the log's work in pieces, lookup and parent key in ordinary Rust, written from documents 01 and 02
+//! alone: what tests hold the proved library to, and what benchmarks measure it against. It follows the documents' definitions and
+//! shares nothing with the library. No input makes it panic.
 mod bytes;
 mod close;
 mod crc;
 mod extent;
+mod file;
 mod geometry;
 mod header;
 mod identifier;
@@ -12,6 +13,7 @@ mod locator;
 mod log;
 mod lookup;
 mod metadata;
+mod pieces;
 mod regions;
 mod sequence;
 mod tables;
@@ -25,8 +27,10 @@ mod testing;
 pub use close::{close, close_step, Closed};
 pub use crc::crc32c;
 pub use extent::Extent;
+pub use file::File;
 pub use lookup::{lookup, parent_key};
-pub use work::{plan, Plan, Sector};
+pub use pieces::{listing, End, Pieces, Request};
+pub use work::{current_log, plan, plan_of, Plan, Sector};
 
 /// What the tables say of a disk.
 #[derive(Debug, PartialEq, Eq, Clone, Copy, Default)]

@@ -4,10 +4,15 @@ use crate::bytes::{MIB, SECTOR, TIB};
 use crate::header::Header;
 use crate::log::{Entry, Log, Named};
 use crate::sequence;
-use crate::{Extent, Stepped};
+use crate::{Extent, File, Stepped};
 
 /// House limit.
-const LONGEST_IMAGE: u64 = 128 * TIB;
+pub const LONGEST_IMAGE: u64 = 128 * TIB;
+
+const FIRST_MIB: Extent = Extent {
+    offset: 0,
+    length: MIB,
+};
 
 /// The log's work. A zero descriptor may name 2^35 sectors: runs of sectors are held, one for each descriptor.
 #[derive(Debug, PartialEq, Eq, Clone)]
@@ -49,6 +54,21 @@ impl Sector {
         let length = SECTOR as u64;
         Extent { offset, length }
     }
+
+    /// What is written there, by the log's bytes. "A data sector is LeadingBytes, the 4,084 bytes, TrailingBytes."
+    pub(crate) fn bytes(self, log: &[u8]) -> [u8; SECTOR] {
+        let mut bytes = [0; SECTOR];
+        if let Sector::Data {
+            descriptor, sector, ..
+        } = self
+        {
+            let (descriptor, sector) = (descriptor as usize, sector as usize);
+            bytes[..8].copy_from_slice(&log[descriptor + 8..descriptor + 16]);
+            bytes[8..4092].copy_from_slice(&log[sector + 8..sector + 4092]);
+            bytes[4092..].copy_from_slice(&log[descriptor + 4..descriptor + 8]);
+        }
+        bytes
+    }
 }
 
 impl Run {
@@ -66,19 +86,27 @@ impl Run {
 /// What is to be done to apply the log of the image that is the first `length` bytes of the buffer, or refusal 1 to 8.
 pub fn plan(buffer: &[u8], length: u64) -> Result<Plan, u64> {
     let capacity = buffer.len() as u64;
+    plan_of(File::with_length(buffer, length), capacity)
+}
+
+/// The same of a file that may grow to a capacity, which no buffer has to have: refusals 1 and 8 read it "in place of the buffer".
+pub fn plan_of(file: File, capacity: u64) -> Result<Plan, u64> {
+    let length = file.length();
     if length > capacity || length < MIB {
         return Err(1);
     }
-    let image = &buffer[..length as usize];
-    if !image.starts_with(b"vhdxfile") {
+    let first_mib = file.part(FIRST_MIB);
+    if !first_mib.starts_with(b"vhdxfile") {
         return Err(2);
     }
-    let header = Header::current(image).ok_or(3u64)?;
+    let header = Header::current(&first_mib).ok_or(3u64)?;
     if !header.keeps_rules(length) {
         return Err(4);
     }
+    let log;
     let active = if header.has_log() {
-        Active::new(image, &header)?
+        log = file.part(header.log);
+        Active::new(&log, &header)?
     } else {
         Active::default()
     };
@@ -89,6 +117,14 @@ pub fn plan(buffer: &[u8], length: u64) -> Result<Plan, u64> {
     Ok(active.plan(final_length as u64, header.log))
 }
 
+/// The log that the current header states, where there is one. Whether it keeps the header's rules is not judged.
+pub fn current_log(file: File) -> Option<Extent> {
+    if file.length() < MIB {
+        return None;
+    }
+    Header::current(&file.part(FIRST_MIB)).map(|header| header.log)
+}
+
 /// The active sequence: its log and its entries. "Log identifier zero: no active sequence."
 #[derive(Default)]
 struct Active<'a> {
@@ -97,11 +133,9 @@ struct Active<'a> {
 }
 
 impl<'a> Active<'a> {
-    /// Unless no sequence exists (5).
-    fn new(image: &'a [u8], header: &Header) -> Result<Active<'a>, u64> {
-        let start = header.log.offset as usize;
-        let bytes = &image[start..start + header.log.length as usize];
-        let log = Log::new(bytes, header.log_id);
+    /// By the log's bytes, unless no sequence exists (5).
+    fn new(log: &'a [u8], header: &Header) -> Result<Active<'a>, u64> {
+        let log = Log::new(log, header.log_id);
         let entries = sequence::active(&log).ok_or(5u64)?;
         Ok(Active { log, entries })
     }
@@ -120,12 +154,8 @@ impl<'a> Active<'a> {
         if length < self.log.flushed_file_offset(head) {
             return Err(6);
         }
-        let first_mib = Extent {
-            offset: 0,
-            length: MIB,
-        };
         // ranges are whole sectors, so that a range shares a byte where one of its sectors does
-        let forbidden = |range: Extent| range.shares_a_byte(first_mib) || range.shares_a_byte(log);
+        let forbidden = |range: Extent| range.shares_a_byte(FIRST_MIB) || range.shares_a_byte(log);
         if self.named().any(|named| forbidden(named.range)) {
             return Err(7);
         }
@@ -206,20 +236,10 @@ impl Plan {
         buffer[length as usize..self.length as usize].fill(0);
     }
 
-    /// A step from 1 on. "A data sector is LeadingBytes, the 4,084 bytes, TrailingBytes."
+    /// A step from 1 on.
     fn write(&self, buffer: &mut [u8], sector: Sector) {
-        let at = sector.extent().offset as usize;
-        let mut bytes = [0; SECTOR];
-        if let Sector::Data {
-            descriptor, sector, ..
-        } = sector
-        {
-            let log = &buffer[self.log.offset as usize..];
-            let (descriptor, sector) = (descriptor as usize, sector as usize);
-            bytes[..8].copy_from_slice(&log[descriptor + 8..descriptor + 16]);
-            bytes[8..4092].copy_from_slice(&log[sector + 8..sector + 4092]);
-            bytes[4092..].copy_from_slice(&log[descriptor + 4..descriptor + 8]);
-        }
+        let (at, log) = (sector.extent().offset as usize, self.log.offset as usize);
+        let bytes = sector.bytes(&buffer[log..log + self.log.length as usize]);
         buffer[at..at + SECTOR].copy_from_slice(&bytes);
     }
 }

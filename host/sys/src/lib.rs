@@ -41,6 +41,17 @@ extern "C" {
         k: u64,
         answer: *mut [u64; 2],
     ) -> u64;
+    pub fn shrunvaki_vhdx_pieces_start(
+        length: u64,
+        capacity: u64,
+        machine: *mut [u64; 64],
+        answer: *mut [u64; 4],
+    ) -> u64;
+    pub fn shrunvaki_vhdx_pieces_next(
+        machine: *mut [u64; 64],
+        piece: *mut [u8; 65536],
+        answer: *mut [u64; 4],
+    ) -> u64;
     pub fn shrunvaki_vhdx_lookup(
         facts: *const [u64; 32],
         buffer: *const u8,

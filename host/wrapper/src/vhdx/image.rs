@@ -56,7 +56,7 @@ pub enum Lookup {
 }
 
 /// An answer that the library's contracts exclude.
-const NO_ANSWER: &str = "the library's answer is none that its contract allows";
+pub(super) const NO_ANSWER: &str = "the library's answer is none that its contract allows";
 
 impl<B: AsRef<[u8]>> Image<B> {
     /// The buffer's first `length` bytes. Any length may be given; one above the buffer's is refused by every call.

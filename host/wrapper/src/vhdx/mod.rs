@@ -1,7 +1,8 @@
-//! VHDX: an image in a buffer, what it is, where its sectors are, and why it is refused.
+//! VHDX: an image in a buffer, what it is, where its sectors are, and why it is refused; and a file that no buffer holds.
 mod facts;
 mod identifier;
 mod image;
+pub mod pieces;
 pub mod raw;
 mod refusal;
 mod ucs2;

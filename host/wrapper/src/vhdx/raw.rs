@@ -6,6 +6,9 @@ use shrunvaki_sys as sys;
 /// What attach answers, and what lookup and parent key take: refusal, length, count, and the facts in slots 3 to 15.
 pub type Slots = [u64; 32];
 
+/// The log's work in pieces, between two requests. What the numbers mean is the library's own.
+pub type Machine = [u64; 64];
+
 /// No answer holds it where it has to hold a zero: a slot that is not written shows.
 const UNWRITTEN: u64 = u64::MAX;
 
@@ -74,6 +77,27 @@ pub fn close_step(
             &mut answer,
         )
     };
+    (refusal, answer)
+}
+
+/// Starts the log's work in pieces for a file of a length, which may grow to a capacity. The answer: 0 refused, 1 read, 2 grow, 3
+/// write, 4 done; then the refusal's number, an offset, a length, an offset, or the final length; then the bytes wanted after a 1,
+/// 1 for data and 0 for zeros after a 3, the count of sectors after a 4; and 0.
+pub fn pieces_start(length: u64, capacity: u64) -> (u64, Machine, [u64; 4]) {
+    let mut machine = [UNWRITTEN; 64];
+    let mut answer = [UNWRITTEN; 4];
+    // SAFETY: the function writes the machine and the answer.
+    let refusal =
+        unsafe { sys::shrunvaki_vhdx_pieces_start(length, capacity, &mut machine, &mut answer) };
+    (refusal, machine, answer)
+}
+
+/// Goes on: after a 1 the piece begins with the bytes that were wanted, and at a 3 with the 4,096 to write. The answer's first
+/// number is also 5, for numbers that no machine has: then nothing is changed.
+pub fn pieces_next(machine: &mut Machine, piece: &mut [u8; 65536]) -> (u64, [u64; 4]) {
+    let mut answer = [UNWRITTEN; 4];
+    // SAFETY: the function reads and writes the machine and the piece, and writes the answer.
+    let refusal = unsafe { sys::shrunvaki_vhdx_pieces_next(machine, piece, &mut answer) };
     (refusal, answer)
 }
 

@@ -2,12 +2,12 @@
 //! what an attach of the original gives, and after lists of closes one more close what closing the original gives. A torn write
 //! leaves any bytes in its sector, interrupted growth any length up to the final one and garbage past it. Steps of closing are
 //! done in their order, from 0 on again after each interruption.
-use crate::draw::{capacity, Draw};
-use crate::files::{bases, Base};
 use crate::pair::Pair;
 use crate::questions::number;
-use crate::seeds;
 use shrunvaki_testkit::closing::WRITER;
+use shrunvaki_testkit::drawn::draw::{capacity, Draw};
+use shrunvaki_testkit::drawn::files::{bases, Base};
+use shrunvaki_testkit::drawn::seeds;
 use shrunvaki_testkit::image::{Image, HEADERS, SECTOR};
 use shrunvaki_testkit::pending::assert_same;
 use shrunvaki_testkit::random::Random;

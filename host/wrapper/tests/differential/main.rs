@@ -4,15 +4,11 @@
 //! What is drawn at random is drawn from a seed, which a failing test names; `SEED=n` runs that one alone.
 mod causes;
 mod damage;
-mod draw;
-mod fields;
-mod files;
 mod lists;
 mod log_limits;
 mod lookup_limits;
 mod pair;
 mod questions;
 mod rings;
-mod seeds;
 mod table_limits;
 mod tally;

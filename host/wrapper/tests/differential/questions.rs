@@ -1,7 +1,7 @@
 //! What a file is asked in a case: sectors and keys, of facts that are its own or others.
-use crate::fields::interesting;
-use crate::files::KEYS;
 use crate::pair::Pair;
+use shrunvaki_testkit::drawn::fields::interesting;
+use shrunvaki_testkit::drawn::files::KEYS;
 use shrunvaki_testkit::random::Random;
 use shrunvaki_testkit::tables::ucs2;
 use shrunvaki_testkit::vhdx::{self, Facts, HAS_PARENT};

@@ -1,9 +1,9 @@
 //! Logs drawn at random for a file: most can be applied, and refusals 5 to 8 are not rare.
-use crate::files::Base;
-use shrunvaki_testkit::image::{Descriptor, Entry, Image, SECTOR};
-use shrunvaki_testkit::pending::{data, pattern, zero};
-use shrunvaki_testkit::random::Random;
-use shrunvaki_testkit::sample::{entry, M, MINUS_TEN, TIB};
+use super::files::Base;
+use crate::image::{Descriptor, Entry, Image, SECTOR};
+use crate::pending::{data, pattern, zero};
+use crate::random::Random;
+use crate::sample::{entry, M, MINUS_TEN, TIB};
 
 /// Draws for a file in a buffer with a capacity.
 pub struct Draw<'a> {

@@ -1,5 +1,5 @@
 //! One case for each seed.
-use shrunvaki_testkit::random::Random;
+use crate::random::Random;
 use std::ops::RangeInclusive;
 
 /// Names the seed if its case panics, in whichever of the two.

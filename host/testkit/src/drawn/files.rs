@@ -1,13 +1,13 @@
 //! Files of many kinds, sound and without a pending log: what logs are drawn for and damage is done to.
-use shrunvaki_testkit::closing::full_header;
-use shrunvaki_testkit::image::{Image, GUID};
-use shrunvaki_testkit::random::Random;
-use shrunvaki_testkit::sample::{entry, M, TIB};
-use shrunvaki_testkit::tables::{
+use crate::closing::full_header;
+use crate::image::{Image, GUID};
+use crate::random::Random;
+use crate::sample::{entry, M, TIB};
+use crate::tables::{
     locator, stored, Disk, Item, Region, BAT, DISK_SIZE, FILE_PARAMETERS, IS_USER, LOGICAL,
     METADATA,
 };
-use shrunvaki_testkit::vhdx::Facts;
+use crate::vhdx::Facts;
 use vhdx_model as model;
 
 /// A file. Past its end the buffer holds garbage.

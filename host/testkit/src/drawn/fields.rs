@@ -1,8 +1,8 @@
 //! Where a file's fields are, values that are worth trying in them, and checksums made to agree again.
-use crate::files::Base;
-use shrunvaki_testkit::image::{seal, Image, HEADERS, SECTOR};
-use shrunvaki_testkit::random::Random;
-use shrunvaki_testkit::sample::{M, MINUS_TEN, TIB};
+use super::files::Base;
+use crate::image::{seal, Image, HEADERS, SECTOR};
+use crate::random::Random;
+use crate::sample::{M, MINUS_TEN, TIB};
 use std::ops::Range;
 
 /// A number or an identifier in a file.
