@@ -3,7 +3,7 @@
 -- Assumes nothing.
 use mathlib.Core.Bool.{Bool, true, false, _&&_}
 use mathlib.Core.List.{List, [], _∷_}
-use Prim.Native.Nat.{ℕ, _+_, _*_, _^_}
+use Prim.Native.Nat.{ℕ, zero, suc, _+_, _*_, _/_, _%_, _^_, _<_}
 use lib.Dec.{eqb}
 use lib.ListN.{take, drop}
 use Rattle.field.specs.declared.Guid.{Guid}
@@ -12,6 +12,16 @@ use Rattle.field.specs.declared.Guid.{Guid}
 unfoldable pub le : List ℕ → ℕ
 le [] = 0
 le (b ∷ bs) = b + 256 * le bs
+
+-- and back: a number as n bytes, lowest first
+unfoldable pub leBytes : ℕ → ℕ → List ℕ
+leBytes zero x = []
+leBytes (suc n) x = x % 256 ∷ leBytes n (x / 256)
+
+-- a list of bytes
+abbrev pub Bytes : List ℕ → Type 0
+Bytes [] = Unit {0}
+Bytes (b ∷ bs) = (b < 256) × Bytes bs
 
 -- the number in the n bytes at an offset, for every width n
 unfoldable pub field : List ℕ → ℕ → ℕ → ℕ

@@ -1,5 +1,8 @@
 // Fields of a slice of bytes: little-endian numbers of one, two, four and eight bytes, identifiers of 16 bytes, and a
 // run of bytes compared with a key.
+// Its module: `number`, a number as bytes.
+pub mod number;
+
 ghost use mathlib.Core.Path.{_≡_};
 ghost use Prim.Native.Nat.{_+_, _≤_};
 ghost use lib.Dec.{eqb};

@@ -11,7 +11,7 @@ use mathlib.Core.Path.{_≡_}
 use Prim.Native.Nat.{ℕ, zero}
 use lib.ListN.{length}
 use Rattle.vhdx_replay.specs.Steps.{File}
-use Rattle.vhdx_rewrite.specs.Rewrite.{Bytes}
+use Rattle.field.specs.Fields.{Bytes}
 use Rattle.vhdx_close.specs.Calls.{Calls}
 use Rattle.vhdx_close.specs.Safety.{Recloses}
 use Rattle.vhdx.specs.CrashSafety.{Applicable}

@@ -11,7 +11,8 @@ use lib.Dec.{eqb, ltb}
 use lib.ListN.{length, take, drop, getD}
 use lib.Seq.{take-take}
 use borrow.Author.Tests.{ltb-true, eq-eqb, le-leb}
-use Rattle.field.specs.Fields.{number, starts}
+use Rattle.field.specs.Fields.{Bytes, number, starts}
+use Rattle.field.proofs.Bytes.{bytes-take, bytes-drop}
 use Rattle.extent.specs.Extent.{MiB}
 use Rattle.vhdx_header.specs.declared.Header.{Header}
 use Rattle.vhdx_header.specs.declared.Answer.{Answer}
@@ -29,11 +30,11 @@ use Rattle.vhdx_replay.specs.Calls.{planOf}
 use Rattle.vhdx_replay.proofs.Bytes.{part-long}
 use Rattle.vhdx_replay.proofs.Reading.{applied, same-part}
 use Rattle.vhdx_replay.proofs.Sectors.{Kept}
-use Rattle.vhdx_rewrite.specs.Rewrite.{closedHeader, Bytes}
+use Rattle.vhdx_rewrite.specs.Rewrite.{closedHeader}
 use Rattle.vhdx_rewrite.specs.Rewrite.{greatest}
 use Rattle.vhdx_close.specs.Close.{slotIn, closePlan}
 use Rattle.vhdx_close.specs.Safety.{HasNoLog}
-use Rattle.vhdx_rewrite.proofs.Parts.{starts-same, bytes-take, bytes-drop}
+use Rattle.vhdx_rewrite.proofs.Parts.{starts-same}
 use Rattle.vhdx_rewrite.proofs.Slots.{slots-low, slots-apart, slots-back, slots-turned, slot-part, slot-same}
 use Rattle.vhdx_rewrite.proofs.Rewriting.{closed-number, closed-guid, closed-rest, closed-valid, closed-rules}
 

@@ -14,7 +14,7 @@ use lib.ListN.{length, take, drop, getD, getElem?, length-append, drop-of-length
 use lib.Seq.{drop-cons, take-suc, take-all, drop-append-seam, getD-append-seam}
 use borrow.Author.Tests.{le-leb}
 use Rattle.decision.specs.Refusal.{Outcome, refused, answered, check}
-use Rattle.field.specs.Fields.{number}
+use Rattle.field.specs.Fields.{Bytes, number}
 use Rattle.extent.specs.Extent.{MiB}
 use Rattle.vhdx_header.specs.declared.Header.{Header}
 use Rattle.vhdx_header.specs.declared.Answer.{Answer}
@@ -33,7 +33,7 @@ use Rattle.vhdx_replay.proofs.Bytes.{lt-or-le, put-length, put-out, zeroed-leng
 use Rattle.vhdx_replay.proofs.Restart.{EndBy, Inv, at-first, Good, done, keeps, ran, whole, writes-good, Agree, in-or-out, meet-one, grown-alike, all-done, Reads}
 use Rattle.vhdx_replay.proofs.Reading.{reads}
 use Rattle.vhdx_replay.proofs.Sectors.{Kept, clash}
-use Rattle.vhdx_rewrite.specs.Rewrite.{closedHeader, Bytes}
+use Rattle.vhdx_rewrite.specs.Rewrite.{closedHeader}
 use Rattle.vhdx_rewrite.specs.Rewrite.{greatest}
 use Rattle.vhdx_close.specs.Close.{slotIn, headerSector, closePlan, afterClose, afterCloseStep}
 use Rattle.vhdx_close.specs.Calls.{WholeBy, WholeIfValid, Calls, none, close, step, refuse, interrupted-close, interrupted-step}

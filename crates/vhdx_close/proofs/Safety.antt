@@ -32,7 +32,7 @@ use Rattle.vhdx_replay.proofs.Applying.{extent-is}
 use Rattle.vhdx_replay.proofs.Reading.{header-of, reads, same-part}
 use Rattle.vhdx_replay.proofs.Restart.{EndBy, Inv, Good, writes-good, beyond, ran, whole, admitted-good, Agree, same-image, all-done, Reads, untouched, planned, good, first}
 use Rattle.vhdx_replay.proofs.Sectors.{Kept}
-use Rattle.vhdx_rewrite.specs.Rewrite.{Bytes}
+use Rattle.field.specs.Fields.{Bytes}
 use Rattle.vhdx_rewrite.specs.Rewrite.{greatest}
 use Rattle.vhdx_close.specs.Close.{slotIn, headerSector, closing, closedBy, closePlan, afterClose, afterCloseStep, closeAnswer}
 use Rattle.vhdx_close.specs.Calls.{Calls, none, close, step, refuse, interrupted-close, interrupted-step}

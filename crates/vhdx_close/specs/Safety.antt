@@ -15,7 +15,7 @@ use Rattle.vhdx_log.specs.Work.{apply, sectorsPlanned}
 use Rattle.vhdx_replay.specs.Steps.{File, Named}
 use Rattle.vhdx_replay.specs.Calls.{planOf}
 use Rattle.vhdx_replay.specs.Planned.{logExtent}
-use Rattle.vhdx_rewrite.specs.Rewrite.{Bytes}
+use Rattle.field.specs.Fields.{Bytes}
 use Rattle.vhdx_close.specs.Close.{closePlan, afterClose, afterCloseStep, closeAnswer}
 use Rattle.vhdx_close.specs.Calls.{Calls}
 

@@ -10,6 +10,8 @@ use lib.Dec.{leb, ltb, lit≤}
 use lib.ListN.{length, take, drop, replicate, length-append, length-drop, length-replicate}
 use lib.Seq.{length-take-le, take-append-le, drop-append-le, drop-drop}
 use borrow.Author.Tests.{lt-ltb, le-ltb, lt-leb}
+use Rattle.field.specs.Fields.{Bytes}
+use Rattle.field.proofs.Bytes.{bytes-append, bytes-take, bytes-drop, bytes-zeros}
 use Rattle.extent.specs.declared.Extent.{Extent}
 use Rattle.extent.specs.Extent.{part}
 use Rattle.vhdx_entry.specs.Ring.{sectorCount, sectorAt}
@@ -31,8 +33,6 @@ use Rattle.vhdx_pieces_plan.specs.Planning.{sectorsOf, sectorIn}
 use Rattle.vhdx_pieces_plan.proofs.Planned.{plans-all}
 use Rattle.vhdx_pieces_walk.specs.declared.Step as walkStep
 use Rattle.vhdx_pieces_walk.specs.Walking as walking
-use Rattle.vhdx_pieces_walk.specs.Walking.{Bytes}
-use Rattle.vhdx_pieces_walk.proofs.Digits.{bytes-take, bytes-drop, bytes-append}
 use Rattle.vhdx_pieces_walk.proofs.Walked.{writes-all}
 use Rattle.vhdx_pieces.specs.declared.Machine.the-variants.{Planning, Growing, Reading, Writing}
 use Rattle.vhdx_pieces.specs.declared.Turn.{Turn}
@@ -66,15 +66,16 @@ module _ (f b : List ℕ) (same : (e : Extent) → e .offset + e .length ≤ len
     read-is : (k : ℕ) → k < sectorCount log → part f (sectorIn (o .log) k) ≡ sectorAt log k
     read-is k h = sym (same (sectorIn (o .log) k) (omega arith)) ∙ sector-part (o .log) k (omega arith) ∙ ap (λ (l : List ℕ). sectorAt l k) log-is
 
-    lift-walk : {p : List ℕ} {st : walkStep.Step} {ss : List Sector} → walking.Writes log (boundsOf o) p st ss → Ends f p (walked o st) (map write ss) (finished (o .length) (o .count))
+    lift-walk : {p : List ℕ} {st : walkStep.Step} {ss : List Sector} → walking.Writes log (boundsOf o) p st ss → (k : ℕ) → k ≡ length ss
+        → Ends f p (walked o k st) (map write ss) (finished (o .length) (o .count))
     unfolding stepOf
-    lift-walk walking.stop = runs.done
-    lift-walk (walking.reads {w} {ss} below r) =
-        let k = walking.wantedOf w in
-        runs.reads {m = Reading (record { order = o; walker = w })} {rs = map write ss} {x = finished (o .length) (o .count)} (omega arith) (lit≤ tt)
-        (subst (λ (l : List ℕ). Ends f l (walked o (walking.stepOf (boundsOf o) w l)) (map write ss) (finished (o .length) (o .count))) (sym (read-is k below)) (lift-walk r))
-    lift-walk (walking.writes {w} {ss} r) =
-        runs.writes {m = Writing (record { order = o; walker = w })} {rs = map write ss} {x = finished (o .length) (o .count)} (λ q. lift-walk (r q))
+    lift-walk walking.stop k e = rw e runs.done
+    lift-walk (walking.reads {w} {ss} below r) k e =
+        runs.reads {m = Reading (record { order = o; walker = w; unwritten = k })} {rs = map write ss} {x = finished (o .length) (o .count)} (omega arith) (lit≤ tt)
+        (subst (λ (l : List ℕ). Ends f l (walked o k (walking.stepOf (boundsOf o) w l)) (map write ss) (finished (o .length) (o .count))) (sym (read-is (walking.wantedOf w) below)) (lift-walk r k e))
+    lift-walk (walking.writes {w} {ss} r) k e =
+        rw (lt-ltb 0 k (omega (arith, e)))
+        (runs.writes {m = Writing (record { order = o; walker = w; unwritten = k - 1 })} {rs = map write ss} {x = finished (o .length) (o .count)} (λ q. lift-walk (r q) (k - 1) (omega (arith, e))))
 
 -- ---- the work of an order
 
@@ -82,41 +83,50 @@ module _ (f b : List ℕ) (same : (e : Extent) → e .offset + e .length ≤ len
   abbrev log : List ℕ
   log = logOf b (length f)
 
-  none-left : (o : Order) → o .left ≡ 0 → (p : List ℕ) → Ends f p (walkFrom o) (map write (sectors (descriptorsOn log (o .start) 0 (o .left)))) (finished (o .length) (o .count))
-  unfolding walkFrom descriptorsOn
-  none-left o e p = rw e runs.done
+  -- the sectors that an order names
+  abbrev named : Order → List Sector
+  named o = sectors (descriptorsOn log (o .start) 0 (o .left))
 
-  some-left : (o : Order) → planning.Walks (length f) b log o → (p : List ℕ) → Ends f p (walkFrom o) (map write (sectors (descriptorsOn log (o .start) 0 (o .left)))) (finished (o .length) (o .count))
-  unfolding walkFrom part
-  some-left o w p =
-      let counts : sectorCount log ≡ sectorsOf (o .log) = omega (arith, w .whole) in
-      let here = subst Bytes (w .log-is) (bytes-take (o .log .length) (drop (o .log .offset) b) (bytes-drop (o .log .offset) b bytes)) in
-      let run = writes-all log (boundsOf o) (o .start) (o .left) p here (omega (arith, w .whole)) (omega (arith, w .start, counts)) (w .readable) (w .bounded) (w .apart) in
-      lift-walk f b same o log (w .log-is) counts (w .inside)
-      (subst (λ (n : ℕ). walking.Writes log (boundsOf o) p (walking.started (record { at = o .start; len = n }) (o .left)) (sectors (descriptorsOn log (o .start) 0 (o .left)))) counts run)
+  module _ (o : Order) (counted : o .count ≡ length (named o)) where
+    abbrev Ending : List ℕ → Type 0
+    Ending p = Ends f p (walkFrom o) (map write (named o)) (finished (o .length) (o .count))
 
-  walks : (o : Order) → (0 < o .left → planning.Walks (length f) b log o) → (p : List ℕ) → Ends f p (walkFrom o) (map write (sectors (descriptorsOn log (o .start) 0 (o .left)))) (finished (o .length) (o .count))
-  walks o w p = go (decLt 0 (o .left))
-    where
-      go : Dec (0 < o .left) → Ends f p (walkFrom o) (map write (sectors (descriptorsOn log (o .start) 0 (o .left)))) (finished (o .length) (o .count))
-      go (yes h) = some-left o (w h) p
-      go (no h) = none-left o (omega arith) p
+    none-left : o .left ≡ 0 → (p : List ℕ) → Ending p
+    unfolding walkFrom descriptorsOn
+    none-left e p =
+        let none : o .count ≡ 0 = counted ∙ ap (λ (k : ℕ). length (sectors (descriptorsOn log (o .start) 0 k))) e in
+        rw (e, none) runs.done
 
-  -- growth first, only where the final length is greater
-  does : (o : Order) → (0 < o .left → planning.Walks (length f) b log o) → (t : Bool) → (p : List ℕ)
-      → Ends f p (cond t (Grow (Growing o)) (walkFrom o)) (cond t (grow (o .length) ∷ map write (sectors (descriptorsOn log (o .start) 0 (o .left)))) (map write (sectors (descriptorsOn log (o .start) 0 (o .left))))) (finished (o .length) (o .count))
-  unfolding stepOf
-  does o w true p = runs.grows {m = Growing o} (λ q. walks o w q)
-  does o w false p = walks o w p
+    some-left : planning.Walks (length f) b log o → (p : List ℕ) → Ending p
+    unfolding walkFrom part
+    some-left w p =
+        let counts : sectorCount log ≡ sectorsOf (o .log) = omega (arith, w .whole) in
+        let here = subst Bytes (w .log-is) (bytes-take (o .log .length) (drop (o .log .offset) b) (bytes-drop (o .log .offset) b bytes)) in
+        let run = writes-all log (boundsOf o) (o .start) (o .left) p here (omega (arith, w .whole)) (omega (arith, w .start, counts)) (w .readable) (w .bounded) (w .apart) in
+        lift-walk f b same o log (w .log-is) counts (w .inside)
+        (subst (λ (n : ℕ). walking.Writes log (boundsOf o) p (walking.started (record { at = o .start; len = n }) (o .left)) (named o)) counts run) (o .count) counted
+
+    walks : (0 < o .left → planning.Walks (length f) b log o) → (p : List ℕ) → Ending p
+    walks w p = go (decLt 0 (o .left))
+      where
+        go : Dec (0 < o .left) → Ending p
+        go (yes h) = some-left (w h) p
+        go (no h) = none-left (omega arith) p
+
+    -- growth first, only where the final length is greater
+    does : (0 < o .left → planning.Walks (length f) b log o) → (t : Bool) → (p : List ℕ)
+        → Ends f p (cond t (Grow (Growing o)) (walkFrom o)) (cond t (grow (o .length) ∷ map write (named o)) (map write (named o))) (finished (o .length) (o .count))
+    unfolding stepOf
+    does w true p = runs.grows {m = Growing o} (λ q. walks w q)
+    does w false p = walks w p
 
   outcome-ends : (o : Outcome) → planning.Decides b (length f) o → (p : List ℕ) → Ends f p (ordered (length f) o) (requests (length f) (plan b (length f))) (resultOf (plan b (length f)))
   outcome-ends (outcome.Refused c) d p = subst (λ (x : Plan). Ends f p (Refused c) (requests (length f) x) (resultOf x)) (d .same) runs.refuses
   outcome-ends (outcome.Apply o) d p =
-      let ss = sectors (descriptorsOn log (o .start) 0 (o .left)) in
-      let counted : o .count ≡ length ss = d .counted ∙ sym (ap count (d .same)) in
+      let counted : o .count ≡ length (named o) = d .counted ∙ sym (ap count (d .same)) in
       subst (λ (x : Plan). Ends f p (ordered (length f) (outcome.Apply o)) (requests (length f) x) (resultOf x)) (d .same)
-      (subst (λ (k : ℕ). Ends f p (ordered (length f) (outcome.Apply o)) (requests (length f) (apply (o .length) ss)) (finished (o .length) k)) counted
-      (does o (d .walks) (ltb (length f) (o .length)) p))
+      (subst (λ (k : ℕ). Ends f p (ordered (length f) (outcome.Apply o)) (requests (length f) (apply (o .length) (named o))) (finished (o .length) k)) counted
+      (does o counted (d .walks) (ltb (length f) (o .length)) p))
 
 -- ---- a buffer of the stated capacity
 
@@ -130,11 +140,6 @@ same-part capacity f h e l =
     within-take (e .length) (e .offset) capacity (f ++ replicate capacity 0) (omega arith)
     ∙ ap (take (e .length)) (drop-append-le (e .offset) f (replicate capacity 0) (omega arith))
     ∙ take-append-le (e .length) (drop (e .offset) f) (replicate capacity 0) (simp length-drop (omega arith))
-
-bytes-zeros : (n : ℕ) → Bytes (replicate n 0)
-bytes-zeros zero i = omega arith
-bytes-zeros (suc n) zero = omega arith
-bytes-zeros (suc n) (suc i) = bytes-zeros n i
 
 bytes-buffered : (capacity : ℕ) (f : List ℕ) → Bytes f → Bytes (buffered capacity f)
 unfolding buffered

@@ -1,10 +1,11 @@
 -- The log's work in pieces: what a machine asks for, and what it does when that is done.
 -- Assumes nothing.
-use mathlib.Core.Bool.{Bool, cond}
-use mathlib.Core.List.{List, []}
+use mathlib.Core.Bool.{Bool, false, cond}
+use mathlib.Core.List.{List}
 use mathlib.Core.Path.{_≡_}
-use Prim.Native.Nat.{ℕ, _+_, _≤_, _<_}
-use lib.Dec.{ltb}
+use Prim.Native.Nat.{ℕ, _+_, _-_, _≤_, _<_}
+use lib.Dec.{eqb, ltb}
+use Rattle.decision.specs.Refusal.{check}
 use Rattle.extent.specs.declared.Extent.{Extent}
 use Rattle.vhdx_walk.specs.Entries.{Sector}
 use Rattle.vhdx_pieces_plan.specs.declared.Order.{Order}
@@ -18,6 +19,7 @@ use Rattle.vhdx_pieces_walk.specs.declared.Bounds.{Bounds}
 use Rattle.vhdx_pieces_walk.specs.declared.Step as walk
 use Rattle.vhdx_pieces_walk.specs.declared.Step.the-variants as walkStep
 use Rattle.vhdx_pieces_walk.specs.Walking as walking
+use Rattle.vhdx_pieces_sector.specs.Written as written
 use Rattle.vhdx_pieces.specs.declared.Doing.{Doing}
 use Rattle.vhdx_pieces.specs.declared.Machine.{Machine}
 use Rattle.vhdx_pieces.specs.declared.Machine.the-variants.{Planning, Growing, Reading, Writing}
@@ -39,24 +41,32 @@ growthOf (Growing o) = o .length
 growthOf (Reading d) = 0
 growthOf (Writing d) = 0
 
--- the sector that is to be written, where p was read last
+-- the sector that is to be written, where s was read last
 abbrev pub writtenOf : Machine → List ℕ → Sector
-writtenOf (Planning p) s = record { offset = 0; bytes = [] }
-writtenOf (Growing o) s = record { offset = 0; bytes = [] }
-writtenOf (Reading d) s = record { offset = 0; bytes = [] }
+writtenOf (Planning p) s = record { offset = 0; bytes = s }
+writtenOf (Growing o) s = record { offset = 0; bytes = s }
+writtenOf (Reading d) s = record { offset = 0; bytes = s }
 writtenOf (Writing d) s = walking.writtenOf (d .walker) s
+
+-- it is a data descriptor's
+abbrev pub isDataOf : Machine → Bool
+isDataOf (Planning p) = false
+isDataOf (Growing o) = false
+isDataOf (Reading d) = false
+isDataOf (Writing d) = written.isDataOf (d .walker)
 
 abbrev pub boundsOf : Order → Bounds
 boundsOf o = record { log = o .log; limit = o .length }
 
-abbrev pub walked : Order → walk.Step → Turn
-walked o (walkStep.Read w) = Read (Reading (record { order = o; walker = w }))
-walked o (walkStep.Write w) = Write (Writing (record { order = o; walker = w }))
-walked o walkStep.Ended = Done (record { length = o .length; count = o .count })
-walked o walkStep.Broken = Refused 5
+-- where k of the planned sectors are not written yet: a log that reads otherwise than it did asks for more or fewer
+abbrev pub walked : Order → ℕ → walk.Step → Turn
+walked o k (walkStep.Read w) = Read (Reading (record { order = o; walker = w; unwritten = k }))
+walked o k (walkStep.Write w) = check (ltb 0 k) (Refused 5) (Write (Writing (record { order = o; walker = w; unwritten = k - 1 })))
+walked o k walkStep.Ended = check (eqb k 0) (Refused 5) (Done (record { length = o .length; count = o .count }))
+walked o k walkStep.Broken = Refused 5
 
 unfoldable pub walkFrom : Order → Turn
-walkFrom o = walked o (walking.started (record { at = o .start; len = sectorsOf (o .log) }) (o .left))
+walkFrom o = walked o (o .count) (walking.started (record { at = o .start; len = sectorsOf (o .log) }) (o .left))
 
 abbrev pub ordered : ℕ → Outcome → Turn
 ordered n (outcome.Refused c) = Refused c
@@ -72,8 +82,8 @@ started n capacity = planned n (planning.started n capacity)
 abbrev pub stepIn : Machine → List ℕ → Turn
 stepIn (Planning p) s = planned (p .context .length) (planning.stepOf p s)
 stepIn (Growing o) s = walkFrom o
-stepIn (Reading d) s = walked (d .order) (walking.stepOf (boundsOf (d .order)) (d .walker) s)
-stepIn (Writing d) s = walked (d .order) (walking.wroteOf (d .walker))
+stepIn (Reading d) s = walked (d .order) (d .unwritten) (walking.stepOf (boundsOf (d .order)) (d .walker) s)
+stepIn (Writing d) s = walked (d .order) (d .unwritten) (walking.wroteOf (d .walker))
 
 unfoldable pub stepOf : Machine → List ℕ → Turn
 stepOf m s = stepIn m s
@@ -83,8 +93,8 @@ stepOf m s = stepIn m s
 abbrev pub Sane : Machine → Type 0
 Sane (Planning p) = planning.Sane p
 Sane (Growing o) = OrderFor (o .length) o
-Sane (Reading d) = OrderFor (d .order .length) (d .order) × walking.Sane (d .walker) × (d .walker .pos .len ≡ sectorsOf (d .order .log))
-Sane (Writing d) = OrderFor (d .order .length) (d .order) × walking.Sane (d .walker) × (d .walker .pos .len ≡ sectorsOf (d .order .log))
+Sane (Reading d) = OrderFor (d .order .length) (d .order) × walking.SaneReading (boundsOf (d .order)) (d .walker) × (d .walker .pos .len ≡ sectorsOf (d .order .log))
+Sane (Writing d) = OrderFor (d .order .length) (d .order) × walking.SaneWriting (boundsOf (d .order)) (d .walker) × (d .walker .pos .len ≡ sectorsOf (d .order .log))
 
 abbrev pub Kept : Turn → Type 0
 Kept (Read m) = Sane m

@@ -7,17 +7,20 @@ use vhdx_pieces_plan::Outcome;
 use vhdx_pieces_plan::Planner;
 use vhdx_pieces_walk::Bounds;
 use vhdx_pieces_walk::Walker;
+ghost use mathlib.Core.List.{List};
 ghost use mathlib.Core.Path.{_≡_};
-ghost use Prim.Native.Nat.{_+_, _≤_, _<_};
+ghost use Prim.Native.Nat.{ℕ, _+_, _≤_, _<_};
 ghost use lib.ListN.{length as lengthOf};
 ghost use Rattle.vhdx_pieces_plan.specs.Planning.{sectorsOf, OrderFor, Ordered, Kept as PlanKept};
+ghost use Rattle.vhdx_pieces_walk.specs.declared.Step.the-variants.{Write};
 ghost use Rattle.vhdx_pieces_walk.specs.Walking.{Onward as WalkOnward};
-ghost use Rattle.vhdx_pieces.specs.Machines.{Sane, Kept, wantedOf, started, planned, ordered, walked, walkFrom, stepOf};
+ghost use Rattle.vhdx_pieces.specs.Machines.{Sane, Kept, boundsOf, wantedOf, growthOf, writtenOf, isDataOf, started, planned, ordered, walked, walkFrom, stepOf};
 
-// An order that is being done.
+// An order that is being done, with the number of its sectors that are not written yet.
 pub struct Doing {
     pub order: Order,
     pub walker: Walker,
+    pub unwritten: u64,
 }
 
 pub enum Machine {
@@ -71,6 +74,64 @@ pub fn wanted(m: Machine) -> Extent
     }
 }
 
+// The length to which the file is to grow, 0 where something else is asked for.
+pub fn growth(m: Machine) -> u64
+    ensures { λ r. ⌜ r ≡ growthOf m ⌝ }
+{
+    match m {
+        Machine::Growing(o) => o.length,
+        Machine::Planning(_) => 0,
+        Machine::Reading(_) => 0,
+        Machine::Writing(_) => 0,
+    }
+}
+
+// Where the sector to be written stands in the file, 0 where something else is asked for.
+pub fn write_offset(m: Machine) -> u64
+    ensures { λ r. ⌜ ((s : List ℕ) → r ≡ writtenOf m s .offset) ⌝ }
+{
+    match m {
+        Machine::Writing(d) => {
+            let w = d.walker;
+            vhdx_pieces_sector::offset(w)
+        }
+        Machine::Planning(_) => 0,
+        Machine::Growing(_) => 0,
+        Machine::Reading(_) => 0,
+    }
+}
+
+// That sector is a data descriptor's.
+pub fn is_data(m: Machine) -> bool
+    ensures { λ r. ⌜ r ≡ isDataOf m ⌝ }
+{
+    match m {
+        Machine::Writing(d) => {
+            let w = d.walker;
+            vhdx_pieces_sector::is_data(w)
+        }
+        Machine::Planning(_) => false,
+        Machine::Growing(_) => false,
+        Machine::Reading(_) => false,
+    }
+}
+
+// Puts that sector's bytes in place of those that were read last.
+pub fn fill(m: Machine, sector: &mut [u8])
+    requires { ⌜ lengthOf (now sector) ≡ 4096 ⌝ }
+    ensures { λ _. ⌜ now (sector .exit) ≡ writtenOf m (now (sector .entry)) .bytes ⌝ }
+{
+    match m {
+        Machine::Writing(d) => {
+            let w = d.walker;
+            vhdx_pieces_sector::fill(w, sector);
+        }
+        Machine::Planning(_) => {}
+        Machine::Growing(_) => {}
+        Machine::Reading(_) => {}
+    }
+}
+
 // Handed in, after what it asked for; the piece counts after a read only.
 pub fn next(m: Machine, piece: &[u8]) -> Turn
     requires { ⌜ Sane m × (lengthOf (now piece) ≡ wantedOf m .length) ⌝ }
@@ -88,6 +149,7 @@ pub fn next(m: Machine, piece: &[u8]) -> Turn
             let log = o.log;
             walk_turn(
                 o,
+                d.unwritten,
                 vhdx_pieces_walk::next(
                     w,
                     Bounds {
@@ -101,7 +163,7 @@ pub fn next(m: Machine, piece: &[u8]) -> Turn
         Machine::Writing(d) => {
             let o = d.order;
             let w = d.walker;
-            walk_turn(o, vhdx_pieces_walk::wrote(w))
+            walk_turn(o, d.unwritten, vhdx_pieces_walk::wrote(w))
         }
     }
 }
@@ -141,6 +203,7 @@ fn walk_from(o: Order) -> Turn
     let n = vhdx_pieces_plan::sectors(log);
     walk_turn(
         o,
+        o.count,
         vhdx_pieces_walk::start(
             RingPos {
                 at: o.start,
@@ -151,21 +214,43 @@ fn walk_from(o: Order) -> Turn
     )
 }
 
-fn walk_turn(o: Order, step: vhdx_pieces_walk::Step) -> Turn
-    requires { ⌜ OrderFor (o .length) o × WalkOnward (sectorsOf (o .log)) step ⌝ }
-    ensures { λ r. ⌜ (r ≡ walked o step) × Kept r ⌝ }
+// Where so many planned sectors are not written yet. A log that reads otherwise than when it was surveyed asks for more or fewer.
+fn walk_turn(o: Order, unwritten: u64, step: vhdx_pieces_walk::Step) -> Turn
+    requires { ⌜ OrderFor (o .length) o × WalkOnward (boundsOf o) (sectorsOf (o .log)) step ⌝ }
+    ensures { λ r. ⌜ (r ≡ walked o unwritten step) × Kept r ⌝ }
 {
     match step {
-        vhdx_pieces_walk::Step::Read(walker) => {
-            Turn::Read(Machine::Reading(Doing { order: o, walker }))
+        vhdx_pieces_walk::Step::Read(walker) => Turn::Read(Machine::Reading(Doing {
+            order: o,
+            walker,
+            unwritten,
+        })),
+        vhdx_pieces_walk::Step::Write(walker) => write_turn(o, unwritten, walker),
+        vhdx_pieces_walk::Step::Ended => {
+            if unwritten == 0 {
+                Turn::Done(Finish {
+                    length: o.length,
+                    count: o.count,
+                })
+            } else {
+                Turn::Refused(5)
+            }
         }
-        vhdx_pieces_walk::Step::Write(walker) => {
-            Turn::Write(Machine::Writing(Doing { order: o, walker }))
-        }
-        vhdx_pieces_walk::Step::Ended => Turn::Done(Finish {
-            length: o.length,
-            count: o.count,
-        }),
         vhdx_pieces_walk::Step::Broken => Turn::Refused(5),
+    }
+}
+
+fn write_turn(o: Order, unwritten: u64, walker: Walker) -> Turn
+    requires { ⌜ OrderFor (o .length) o × WalkOnward (boundsOf o) (sectorsOf (o .log)) (Write walker) ⌝ }
+    ensures { λ r. ⌜ (r ≡ walked o unwritten (Write walker)) × Kept r ⌝ }
+{
+    if 0 < unwritten {
+        Turn::Write(Machine::Writing(Doing {
+            order: o,
+            walker,
+            unwritten: unwritten - 1,
+        }))
+    } else {
+        Turn::Refused(5)
     }
 }

@@ -20,10 +20,7 @@ use Rattle.vhdx_pieces_entry.specs.declared.Progress.{Progress}
 use Rattle.vhdx_pieces_entry.specs.declared.Progress.the-variants.{More, Valid, Empty}
 use Rattle.vhdx_pieces_entry.specs.Sector.{descriptorIn, passes, dataIn}
 use Rattle.vhdx_pieces_entry.specs.Pass.{front, sizeOf, closed, going, settled, fromOf, here, past, onFront, onData, further, beginning, first, Sized, Sane, Kept}
-
-pub chosen : (n : ℕ) (b : Bool) (p q : Progress) → (b ≡ true → Kept n p) → (b ≡ false → Kept n q) → Kept n (cond b p q)
-chosen n true p q f g = f refl
-chosen n false p q f g = g refl
+use Rattle.vhdx_pieces_entry.proofs.Laws.{chosen}
 
 pub few-data : (s : List ℕ) (from m : ℕ) → dataIn s from m ≤ m
 unfolding dataIn
@@ -36,17 +33,17 @@ few-data s from (suc m) = go (isData (descriptorIn s from m)) (few-data s from m
 
 kept-closed : (n : ℕ) (x : Reading) (size : ℕ) → 0 < size → size ≤ n → x .tail < n → Kept n (closed x size)
 unfolding closed
-kept-closed n x size a b d = chosen n (eqb (x .sum) (bitXor (x .state) ones)) _ _ (λ e. (a, b, d)) (λ e. tt)
+kept-closed n x size a b d = chosen (Kept n) (eqb (x .sum) (bitXor (x .state) ones)) _ _ (λ e. (a, b, d)) (λ e. tt)
 
 pub kept-settled : (n : ℕ) (x : Reading) → Sized n x → Kept n (settled n x)
 unfolding settled
 kept-settled n x s =
-    chosen n (ltb (x .read) (front x)) _ _
+    chosen (Kept n) (ltb (x .read) (front x)) _ _
     (λ e. let l : x .read < front x = ltb-true _ _ e in record { sized = s; short = omega (arith, s .fits) })
-    (λ _. chosen n (leb (sizeOf x) n && eqb (x .bytes) (sizeOf x * 4096)) _ _
+    (λ _. chosen (Kept n) (leb (sizeOf x) n && eqb (x .bytes) (sizeOf x * 4096)) _ _
     (λ t.
     let fits : sizeOf x ≤ n = leb-true _ _ (and-eq-true-iff (leb (sizeOf x) n) (eqb (x .bytes) (sizeOf x * 4096)) .0 t .0) in
-    chosen n (ltb (x .read) (sizeOf x)) _ _
+    chosen (Kept n) (ltb (x .read) (sizeOf x)) _ _
     (λ e. let l : x .read < sizeOf x = ltb-true _ _ e in record { sized = s; short = omega arith })
     (λ _. kept-closed n x (sizeOf x) (omega arith) fits (s .tail)))
     (λ _. tt))
@@ -59,17 +56,17 @@ past-sized n x m d s z a b =
 kept-front : (n : ℕ) (x : Reading) (s : List ℕ) → Sized n x → Kept n (onFront n x s)
 unfolding onFront
 kept-front n x s z =
-    chosen n (passes (x .number) s (fromOf (x .read)) (here x)) _ _
+    chosen (Kept n) (passes (x .number) s (fromOf (x .read)) (here x)) _ _
     (λ _. kept-settled n _ (past-sized n x (here x) (dataIn s (fromOf (x .read)) (here x)) s z (omega arith) (few-data s (fromOf (x .read)) (here x))))
     (λ _. tt)
 
 kept-data : (n : ℕ) (x : Reading) (s : List ℕ) → Sized n x → Kept n (onData n x s)
 unfolding onData
-kept-data n x s z = chosen n (dataSectorRule (x .number) s) _ _ (λ _. kept-settled n _ (past-sized n x 0 0 s z (omega arith) (omega arith))) (λ _. tt)
+kept-data n x s z = chosen (Kept n) (dataSectorRule (x .number) s) _ _ (λ _. kept-settled n _ (past-sized n x 0 0 s z (omega arith) (omega arith))) (λ _. tt)
 
 pub kept-further : (n : ℕ) (x : Reading) (s : List ℕ) → Sane n x → Kept n (further n x s)
 unfolding further
-kept-further n x s z = chosen n (ltb (x .read) (front x)) _ _ (λ _. kept-front n x s (z .sized)) (λ _. kept-data n x s (z .sized))
+kept-further n x s z = chosen (Kept n) (ltb (x .read) (front x)) _ _ (λ _. kept-front n x s (z .sized)) (λ _. kept-data n x s (z .sized))
 
 -- the Tail lies in the log
 tail-below : (guid : Guid) (n : ℕ) (s : List ℕ) → headerRule guid (n * 4096) s ≡ true → tail s / 4096 < n
@@ -88,12 +85,46 @@ sane-first n s h f g = record { sized = record { few = omega arith; seen = omega
 pub kept-first : (guid : Guid) (n : ℕ) (s : List ℕ) → n < 33554432 → Kept n (first guid n s)
 unfolding first
 kept-first guid n s h =
-    chosen n (headerRule guid (n * 4096) s && leb (descriptorSectors (descriptorCount s)) n) _ _
+    chosen (Kept n) (headerRule guid (n * 4096) s && leb (descriptorSectors (descriptorCount s)) n) _ _
     (λ t.
     let both = and-eq-true-iff (headerRule guid (n * 4096) s) (leb (descriptorSectors (descriptorCount s)) n) .0 t in
     let fits : descriptorSectors (descriptorCount s) ≤ n = leb-true _ _ (both .1) in
     kept-front n (beginning s) s (sane-first n s h fits (tail-below guid n s (both .0)) .sized))
     (λ _. tt)
+
+-- ---- each sector counts as read
+
+-- k sectors are read where a further one is wanted
+abbrev pub Read : ℕ → Progress → Type 0
+Read k (More x) = x .read ≡ k
+Read k (Valid e) = Unit {0}
+Read k Empty = Unit {0}
+
+read-settled : (n : ℕ) (x : Reading) → Read (x .read) (settled n x)
+unfolding settled closed
+read-settled n x =
+    let P = Read (x .read) in
+    chosen P (ltb (x .read) (front x)) _ _ (λ _. refl)
+    (λ _. chosen P (leb (sizeOf x) n && eqb (x .bytes) (sizeOf x * 4096)) _ _
+    (λ _. chosen P (ltb (x .read) (sizeOf x)) _ _ (λ _. refl) (λ _. chosen P (eqb (x .sum) (bitXor (x .state) ones)) _ _ (λ _. tt) (λ _. tt)))
+    (λ _. tt))
+
+read-front : (n : ℕ) (x : Reading) (s : List ℕ) → Read (x .read + 1) (onFront n x s)
+unfolding onFront
+read-front n x s =
+    chosen (Read (x .read + 1)) (passes (x .number) s (fromOf (x .read)) (here x)) _ _
+    (λ _. read-settled n (past x (here x) (dataIn s (fromOf (x .read)) (here x)) s)) (λ _. tt)
+
+pub read-further : (n : ℕ) (x : Reading) (s : List ℕ) → Read (x .read + 1) (further n x s)
+unfolding further onData
+read-further n x s =
+    let P = Read (x .read + 1) in
+    chosen P (ltb (x .read) (front x)) _ _ (λ _. read-front n x s) (λ _. chosen P (dataSectorRule (x .number) s) _ _ (λ _. read-settled n (past x 0 0 s)) (λ _. tt))
+
+pub read-first : (guid : Guid) (n : ℕ) (s : List ℕ) → Read (0 + 1) (first guid n s)
+unfolding first
+read-first guid n s =
+    chosen (Read (0 + 1)) (headerRule guid (n * 4096) s && leb (descriptorSectors (descriptorCount s)) n) _ _ (λ _. read-front n (beginning s) s) (λ _. tt)
 
 -- ---- what the code's tests decide
 

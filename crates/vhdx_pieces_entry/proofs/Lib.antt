@@ -1,3 +1,4 @@
+pub mod Laws
 pub mod Split
 pub mod Passing
 pub mod Keeping

@@ -1,21 +1,19 @@
 -- Fed a file faithfully, the planner ends with the plan of the whole-buffer form.
 -- Assumes nothing.
-use mathlib.Core.Path.{_≡_, refl, sym, ap, ap₂, _∙_, subst}
+use mathlib.Core.Path.{_≡_, refl, sym, ap, _∙_, subst}
 use mathlib.Core.Bool.{Bool, true, false, not, cond, _&&_, and-eq-true-iff}
 use mathlib.Core.List.{List, []}
 use mathlib.Core.Option.{Option, none, some}
-use Prim.Native.Nat.{ℕ, zero, suc, _+_, _-_, _*_, _/_, _%_, _≤_, _<_, max}
+use Prim.Native.Nat.{ℕ, _+_, _*_, _/_, _%_, _≤_, _<_, max}
 use native.Mathlib.Numerals.{add-one}
 use native.Mathlib.Omega.{arith}
 use lib.Dec.{eqb, leb, ltb, lit≤}
 use lib.ListN.{length, take, drop}
 use lib.Seq.{drop-drop}
-use borrow.Author.Tests.{leb-true, leb-false, ltb-true, le-leb, lt-leb, lt-ltb}
+use borrow.Author.Tests.{leb-true, leb-false, le-leb, lt-ltb}
 use Rattle.decision.specs.Refusal.{check}
 use Rattle.extent.specs.declared.Extent.{Extent}
 use Rattle.extent.specs.Extent.{part, MiB}
-use Rattle.field.specs.declared.Guid.{Guid}
-use Rattle.field.specs.Fields.{number}
 use Rattle.vhdx_header.specs.declared.Header.{Header}
 use Rattle.vhdx_header.specs.declared.Answer.{Answer}
 use Rattle.vhdx_header.specs.declared.Answer.the-variants as answer
@@ -25,8 +23,7 @@ use Rattle.vhdx_entry.specs.Ring.{sectorCount, sectorAt}
 use Rattle.vhdx_entry.proofs.Laws.{within-take}
 use Rattle.vhdx_sequence.specs.declared.Sequence.{Sequence}
 use Rattle.vhdx_sequence.specs.declared.Found.{Found}
-use Rattle.vhdx_sequence.specs.declared.Found.the-variants as found
-use Rattle.vhdx_sequence.specs.Sequence.{sequenceOf, activeSequence}
+use Rattle.vhdx_sequence.specs.Sequence.{activeSequence}
 use Rattle.vhdx_sequence.specs.Scan.{fresh}
 use Rattle.vhdx_sequence.proofs.Laws as sequences
 use Rattle.vhdx_walk.specs.Entries.{Descriptor, Entries, head, allDescriptors, sectors, furthest, lengthLimit}
@@ -34,14 +31,13 @@ use Rattle.vhdx_walk.specs.Bytes.{entriesFrom}
 use Rattle.vhdx_walk.specs.Cursor.{descriptorsOn, AllReadable, Walkable}
 use Rattle.vhdx_walk.proofs.Chains.{walkable, first-descriptors, chain-descriptors}
 use Rattle.vhdx_log.specs.declared.survey.Survey.{Survey}
-use Rattle.vhdx_log.specs.Survey.{surveyOf, capped}
+use Rattle.vhdx_log.specs.Survey.{capped}
 use Rattle.vhdx_log.specs.Work.{Plan, refused, apply, count, someLies, applyWithin, work}
 use Rattle.vhdx_log.specs.Plan.{logBytes, extentOf, planSequence, planLog, planHeader, plan}
 use Rattle.vhdx_log.specs.Answers.{logOf}
 use Rattle.vhdx_log.proofs.Decisions.{refused-6, refused-7, refused-8, applied, exact-count, exact}
-use Rattle.vhdx_log.proofs.Answering.{zero-number, log-length, log-placed, plan-refused, log-is}
+use Rattle.vhdx_log.proofs.Answering.{zero-number, log-length, plan-refused, log-is}
 use Rattle.vhdx_pieces_header.specs.declared.Step as header
-use Rattle.vhdx_pieces_header.specs.declared.Stage.{Stage}
 use Rattle.vhdx_pieces_header.specs.Finding as finding
 use Rattle.vhdx_pieces_header.proofs.Found.{finds-header}
 use Rattle.vhdx_pieces_scan.specs.declared.Step as scan
@@ -53,15 +49,13 @@ use Rattle.vhdx_pieces_survey.specs.declared.Step as survey
 use Rattle.vhdx_pieces_survey.specs.Touring as touring
 use Rattle.vhdx_pieces_survey.proofs.Toured.{surveys-all}
 use Rattle.vhdx_pieces_plan.specs.declared.Context.{Context}
-use Rattle.vhdx_pieces_plan.specs.declared.Surveying.{Surveying}
 use Rattle.vhdx_pieces_plan.specs.declared.Phase.the-variants as phase
-use Rattle.vhdx_pieces_plan.specs.declared.Planner.{Planner}
 use Rattle.vhdx_pieces_plan.specs.declared.Order.{Order}
 use Rattle.vhdx_pieces_plan.specs.declared.Outcome.{Outcome}
 use Rattle.vhdx_pieces_plan.specs.declared.Outcome.the-variants.{Refused, Apply}
 use Rattle.vhdx_pieces_plan.specs.declared.Step.{Step}
-use Rattle.vhdx_pieces_plan.specs.declared.Step.the-variants.{Read, Ended}
-use Rattle.vhdx_pieces_plan.specs.Planning.{sectorsOf, sectorIn, wantedOf, unknown, judged, toured, sought, scanned, withLog, contextOf, withHeader, answered, headed, started, stepOf, Plans, stop, next, planIn, countOf, Walks, WalksIn, Decides, PlansAll}
+use Rattle.vhdx_pieces_plan.specs.declared.Step.the-variants.{Ended}
+use Rattle.vhdx_pieces_plan.specs.Planning.{sectorsOf, sectorIn, wantedOf, unknown, judged, toured, sought, scanned, contextOf, withHeader, answered, headed, started, stepOf, Plans, stop, next, planIn, countOf, WalksIn, Decides, PlansAll}
 use Rattle.vhdx_pieces_plan.proofs.Turns.{size-small}
 
 -- ---- from a part's run to the planner's

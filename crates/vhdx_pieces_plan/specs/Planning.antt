@@ -1,15 +1,14 @@
 -- The log's work planned in pieces: what a planner wants, and what it does with it.
 -- Assumes nothing.
-use mathlib.Core.Bool.{Bool, false, not, cond, _&&_}
+use mathlib.Core.Bool.{false, not, cond, _&&_}
 use mathlib.Core.List.{List}
 use mathlib.Core.Path.{_≡_}
-use Prim.Native.Nat.{ℕ, _+_, _-_, _*_, _/_, _≤_, _<_, max}
+use Prim.Native.Nat.{ℕ, _+_, _*_, _/_, _≤_, _<_, max}
 use lib.Dec.{eqb, leb, ltb}
 use lib.ListN.{length}
 use Rattle.decision.specs.Refusal.{check}
 use Rattle.extent.specs.declared.Extent.{Extent}
 use Rattle.extent.specs.Extent.{inside, part}
-use Rattle.field.specs.declared.Guid.{Guid}
 use Rattle.vhdx_header.specs.declared.Answer.{Answer}
 use Rattle.vhdx_header.specs.declared.Answer.the-variants as answer
 use Rattle.vhdx_header.specs.declared.Header.{Header}
@@ -23,20 +22,18 @@ use Rattle.vhdx_log.specs.Work.{Plan, refused, apply, count, someLies}
 use Rattle.vhdx_log.specs.Plan.{plan}
 use Rattle.vhdx_log.specs.Answers.{logOf}
 use Rattle.vhdx_pieces_header.specs.declared.Stage.{Stage}
+use Rattle.vhdx_pieces_header.specs.declared.Stage.the-variants as stage
 use Rattle.vhdx_pieces_header.specs.declared.Step as header
 use Rattle.vhdx_pieces_header.specs.declared.Step.the-variants as headerStep
 use Rattle.vhdx_pieces_header.specs.Finding as finding
-use Rattle.vhdx_pieces_scan.specs.declared.Scanner.{Scanner}
 use Rattle.vhdx_pieces_scan.specs.declared.Step as scan
 use Rattle.vhdx_pieces_scan.specs.declared.Step.the-variants as scanStep
 use Rattle.vhdx_pieces_scan.specs.Scanning as scanning
-use Rattle.vhdx_pieces_survey.specs.declared.Tour.{Tour}
 use Rattle.vhdx_pieces_survey.specs.declared.Report.{Report}
 use Rattle.vhdx_pieces_survey.specs.declared.Step as survey
 use Rattle.vhdx_pieces_survey.specs.declared.Step.the-variants as surveyStep
 use Rattle.vhdx_pieces_survey.specs.Touring as touring
 use Rattle.vhdx_pieces_plan.specs.declared.Context.{Context}
-use Rattle.vhdx_pieces_plan.specs.declared.Surveying.{Surveying}
 use Rattle.vhdx_pieces_plan.specs.declared.Phase.{Phase}
 use Rattle.vhdx_pieces_plan.specs.declared.Phase.the-variants as phase
 use Rattle.vhdx_pieces_plan.specs.declared.Planner.{Planner}
@@ -131,13 +128,8 @@ pub record Bounded (c : Context) : Type 0 where
   pub inside : c .log .offset + c .log .length ≤ c .length
   pub few : c .length < 18446744073709551616
 
--- where a header is wanted the file has the first MiB
-abbrev pub Long : ℕ → header.Step → Type 0
-Long n (headerStep.Read s) = 1048576 ≤ n
-Long n (headerStep.Ended a) = Unit {0}
-
 abbrev pub SaneIn : Context → Phase → Type 0
-SaneIn c (phase.Header s) = 1048576 ≤ c .length
+SaneIn c (phase.Header s) = (1048576 ≤ c .length) × (c .length < 18446744073709551616)
 SaneIn c (phase.Scan s) = Bounded c × scanning.Sane s × (s .place .pos .len ≡ sectorsOf (c .log))
 SaneIn c (phase.Survey s) =
     Bounded c × touring.Sane (s .tour) × (s .tour .pos .len ≡ sectorsOf (c .log)) × (s .found .start < sectorsOf (c .log)) × (s .found .more < sectorsOf (c .log))
@@ -163,7 +155,41 @@ abbrev pub Kept : ℕ → Step → Type 0
 Kept n (Read p) = Sane p × (p .context .length ≡ n)
 Kept n (Ended o) = Ordered n o
 
--- ---- the theorem
+-- ---- how many pieces it still asks for, at most
+
+abbrev pub headersLeft : Stage → ℕ
+headersLeft stage.Identifier = 3
+headersLeft stage.First = 2
+headersLeft (stage.Second c) = 1
+
+-- of a log of fewer than 2^20 sectors
+abbrev pub scanMost : ℕ
+scanMost = 2097152 * 1048576
+
+abbrev pub surveyMost : ℕ
+surveyMost = 1048576 * 1048576
+
+abbrev pub planMost : ℕ
+planMost = 3 + scanMost + surveyMost
+
+abbrev pub leftIn : Phase → ℕ
+leftIn (phase.Header s) = headersLeft s + scanMost + surveyMost
+leftIn (phase.Scan s) = scanning.leftOf (scanStep.Sector s) + surveyMost
+leftIn (phase.Survey s) = touring.leftOf (surveyStep.Sector (s .tour))
+
+abbrev pub leftOf : Step → ℕ
+leftOf (Read p) = leftIn (p .phase)
+leftOf (Ended o) = 0
+
+-- ---- the theorems
+
+-- whatever is fed, it may be fed again and asks for less, or has ended with what can be done
+abbrev pub PlanAdvances : Type 0
+PlanAdvances = (x : Planner) (p : List ℕ) → Sane x → Kept (x .context .length) (stepOf x p) × (leftOf (stepOf x p) < leftOf (Read x))
+
+-- at the start
+abbrev pub PlanStarts : Type 0
+PlanStarts = (n capacity : ℕ) → n < 18446744073709551616 → Kept n (started n capacity) × (leftOf (started n capacity) ≤ planMost)
 
 -- fed the bytes of b that it wants, all of them among its first n and at most 64 KiB at once, it ends with this outcome
 pub data Plans (b : List ℕ) (n : ℕ) : Step → Outcome → Type 0 where

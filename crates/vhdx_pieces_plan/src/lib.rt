@@ -14,9 +14,7 @@ use vhdx_sequence::Sequence;
 ghost use mathlib.Core.Path.{_≡_};
 ghost use Prim.Native.Nat.{_+_, _≤_, _<_};
 ghost use lib.ListN.{length as lengthOf};
-ghost use Rattle.vhdx_pieces_scan.specs.Scanning.{Onward as ScanOnward};
-ghost use Rattle.vhdx_pieces_survey.specs.Touring.{Onward as TourOnward};
-ghost use Rattle.vhdx_pieces_plan.specs.Planning.{sectorsOf, sectorIn, Long, Bounded, Sane, Ordered, Kept, wantedOf, started, headed, answered, withHeader, withLog, scanned, sought, toured, judged as judgedOf, stepOf};
+ghost use Rattle.vhdx_pieces_plan.specs.Planning.{sectorsOf, sectorIn, Sane, Kept, wantedOf, started, headed, answered, withHeader, withLog, scanned, sought, toured, judged as judgedOf, stepOf};
 
 // The file's length, the stated capacity, where the log lies and its identifier, as soon as they are known.
 pub struct Context {
@@ -135,8 +133,7 @@ pub fn next(p: Planner, piece: &[u8]) -> Step
 }
 
 fn header_turn(length: u64, capacity: u64, step: vhdx_pieces_header::Step) -> Step
-    requires { ⌜ Long length step ⌝ }
-    ensures { λ r. ⌜ (r ≡ headed length capacity step) × Kept length r ⌝ }
+    ensures { λ r. ⌜ r ≡ headed length capacity step ⌝ }
 {
     match step {
         vhdx_pieces_header::Step::Read(stage) => Step::Read(Planner {
@@ -156,7 +153,7 @@ fn header_turn(length: u64, capacity: u64, step: vhdx_pieces_header::Step) -> St
 }
 
 fn with_answer(length: u64, capacity: u64, answer: Answer) -> Step
-    ensures { λ r. ⌜ (r ≡ answered length capacity answer) × Kept length r ⌝ }
+    ensures { λ r. ⌜ r ≡ answered length capacity answer ⌝ }
 {
     match answer {
         Answer::Refused(number) => Step::Ended(Outcome::Refused(number)),
@@ -166,7 +163,7 @@ fn with_answer(length: u64, capacity: u64, answer: Answer) -> Step
 
 // That the log is short and inside the file holds of a file that does not change.
 fn with_header(length: u64, capacity: u64, header: Header) -> Step
-    ensures { λ r. ⌜ (r ≡ withHeader length capacity header) × Kept length r ⌝ }
+    ensures { λ r. ⌜ r ≡ withHeader length capacity header ⌝ }
 {
     let guid = header.log_guid;
     let log = Extent {
@@ -188,8 +185,8 @@ fn with_header(length: u64, capacity: u64, header: Header) -> Step
 }
 
 fn with_log(context: Context) -> Step
-    requires { ⌜ Bounded context ⌝ }
-    ensures { λ r. ⌜ (r ≡ withLog context) × Kept (context .length) r ⌝ }
+    requires { ⌜ context .log .length < 4294967296 ⌝ }
+    ensures { λ r. ⌜ r ≡ withLog context ⌝ }
 {
     let guid = context.guid;
     let log = context.log;
@@ -216,8 +213,8 @@ pub fn sectors(log: Extent) -> usize
 }
 
 fn scan_turn(context: Context, step: vhdx_pieces_scan::Step) -> Step
-    requires { ⌜ Bounded context × ScanOnward (sectorsOf (context .log)) step ⌝ }
-    ensures { λ r. ⌜ (r ≡ scanned context step) × Kept (context .length) r ⌝ }
+    requires { ⌜ context .log .length < 4294967296 ⌝ }
+    ensures { λ r. ⌜ r ≡ scanned context step ⌝ }
 {
     match step {
         vhdx_pieces_scan::Step::Sector(s) => Step::Read(Planner {
@@ -230,8 +227,8 @@ fn scan_turn(context: Context, step: vhdx_pieces_scan::Step) -> Step
 
 // That a sequence starts in the log and has no more entries than the log has sectors holds of a log that does not change.
 fn seek(context: Context, found: Found) -> Step
-    requires { ⌜ Bounded context ⌝ }
-    ensures { λ r. ⌜ (r ≡ sought context found) × Kept (context .length) r ⌝ }
+    requires { ⌜ context .log .length < 4294967296 ⌝ }
+    ensures { λ r. ⌜ r ≡ sought context found ⌝ }
 {
     match found {
         Found::Nothing => Step::Ended(Outcome::Refused(5)),
@@ -258,8 +255,8 @@ fn seek(context: Context, found: Found) -> Step
 }
 
 fn survey_turn(context: Context, found: Sequence, step: vhdx_pieces_survey::Step) -> Step
-    requires { ⌜ Bounded context × TourOnward (sectorsOf (context .log)) step × (found .start < sectorsOf (context .log)) × (found .more < sectorsOf (context .log)) ⌝ }
-    ensures { λ r. ⌜ (r ≡ toured context found step) × Kept (context .length) r ⌝ }
+    requires { ⌜ found .more < sectorsOf (context .log) ⌝ }
+    ensures { λ r. ⌜ r ≡ toured context found step ⌝ }
 {
     match step {
         vhdx_pieces_survey::Step::Sector(tour) => Step::Read(Planner {
@@ -273,8 +270,8 @@ fn survey_turn(context: Context, found: Sequence, step: vhdx_pieces_survey::Step
 
 // 6 to 8.
 fn judged(context: Context, found: Sequence, report: Report) -> Outcome
-    requires { ⌜ Bounded context × (found .start < sectorsOf (context .log)) × (found .more < sectorsOf (context .log)) ⌝ }
-    ensures { λ r. ⌜ (r ≡ judgedOf context found report) × Ordered (context .length) r ⌝ }
+    requires { ⌜ found .more < sectorsOf (context .log) ⌝ }
+    ensures { λ r. ⌜ r ≡ judgedOf context found report ⌝ }
 {
     let log = context.log;
     let all = report.found;

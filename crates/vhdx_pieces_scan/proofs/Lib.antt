@@ -1,3 +1,4 @@
 pub mod Told
 pub mod Turns
+pub mod Advancing
 pub mod Scanned

@@ -5,38 +5,30 @@ use mathlib.Core.Path.{_≡_, refl, sym, ap, _∙_, subst}
 use mathlib.Core.Bool.{Bool, true, false, cond, _&&_}
 use mathlib.Core.List.{List}
 use mathlib.Core.Option.{Option, none, some}
-use Prim.Native.Nat.{ℕ, zero, suc, _+_, _-_, _*_, _%_, _/_, _^_, _≤_, _<_}
+use Prim.Native.Nat.{ℕ, zero, suc, _+_, _%_, _≤_, _<_}
 use native.Mathlib.Nat.{zero-mod, mod-lt, mod-eq-of-lt, mod-add-mod}
 use native.Mathlib.Omega.{arith}
 use lib.Dec.{ltb}
-use lib.ListN.{length}
 use borrow.Author.Tests.{lt-ltb}
-use Rattle.decision.specs.Bounded.{onlyIf}
 use Rattle.field.specs.declared.Guid.{Guid}
 use Rattle.vhdx_entry.specs.declared.Entry.{Entry}
-use Rattle.vhdx_entry.specs.declared.Slot.{Slot}
 use Rattle.vhdx_entry.specs.declared.Slot.the-variants as slot
 use Rattle.vhdx_entry.specs.Ring.{sectorCount, ring, sectorAt, On}
-use Rattle.vhdx_entry.specs.Entry.{entryAt, slotOf, descriptorCount, signatureRule, sequenceNumber}
+use Rattle.vhdx_entry.specs.Entry.{entryAt}
 use Rattle.vhdx_entry.proofs.Laws.{sector-on, length-ring}
 use Rattle.vhdx_sequence.specs.declared.Sequence.{Sequence}
-use Rattle.vhdx_sequence.specs.declared.lap.Place.{Place}
-use Rattle.vhdx_sequence.specs.declared.scan.Trace.{Trace}
-use Rattle.vhdx_sequence.specs.Sequence.{sequenceOf, activeSequence}
-use Rattle.vhdx_sequence.specs.Scan.{Placed, moved, State, stateOf, fresh, runFrom, taken, goesOn}
-use Rattle.vhdx_sequence.proofs.Apart.{whole-sectors}
+use Rattle.vhdx_sequence.specs.Sequence.{activeSequence}
+use Rattle.vhdx_sequence.specs.Scan.{moved, State, stateOf, fresh, taken, goesOn}
 use Rattle.vhdx_sequence.proofs.Turn.{Scanned, begun, within, finished, turn-empty, turn-valid, sized-here}
-use Rattle.vhdx_pieces_entry.specs.declared.Reading.{Reading}
 use Rattle.vhdx_pieces_entry.specs.declared.Progress.{Progress}
-use Rattle.vhdx_pieces_entry.specs.declared.Progress.the-variants.{More, Valid, Empty}
+use Rattle.vhdx_pieces_entry.specs.declared.Progress.the-variants.{Valid, Empty}
 use Rattle.vhdx_pieces_entry.specs.Pass as pass
 use Rattle.vhdx_pieces_entry.proofs.Passing.{reads-entry}
 use Rattle.vhdx_pieces_entry.proofs.Keeping.{kept-first, kept-further}
 use Rattle.vhdx_pieces_scan.specs.declared.Stage.the-variants.{First, Inside, Tail}
-use Rattle.vhdx_pieces_scan.specs.declared.Step.{Step}
 use Rattle.vhdx_pieces_scan.specs.declared.Step.the-variants.{Sector, Ended}
 use Rattle.vhdx_pieces_scan.specs.Scanning.{placeAt, foundOf, traceOf, scannerAt, resumed, progressed, taking, stepOf, Scans, stop, next, ScansActive}
-use Rattle.vhdx_pieces_scan.proofs.Told.{sequence-of-found, state-of-trace}
+use Rattle.vhdx_pieces_scan.proofs.Told.{state-of-trace}
 
 moved-is : (n u by : ℕ) → placeAt n (u + by) ≡ moved (placeAt n u) by
 moved-is n u by =

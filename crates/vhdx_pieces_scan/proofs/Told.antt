@@ -1,22 +1,15 @@
 -- A trace and a place are told by what they stand for; and what the code's answers are.
 -- Assumes nothing.
-use mathlib.Core.Path.{_≡_, refl, sym, ap, ap₂, _∙_, subst}
-use mathlib.Core.Bool.{Bool, true, false, cond, _&&_}
-use mathlib.Core.List.{List}
+use mathlib.Core.Path.{_≡_, refl}
 use mathlib.Core.Option.{Option, none, some}
-use Prim.Native.Nat.{ℕ, _+_, _%_, _≤_, _<_}
-use native.Mathlib.Omega.{arith}
-use native.Mathlib.Nat.{mod-lt}
-use lib.Dec.{ltb, eqb}
-use Rattle.vhdx_entry.specs.declared.ring.RingPos.{RingPos}
-use Rattle.vhdx_entry.specs.declared.Entry.{Entry}
+use Prim.Native.Nat.{ℕ}
 use Rattle.vhdx_sequence.specs.declared.Sequence.{Sequence}
 use Rattle.vhdx_sequence.specs.declared.Found.{Found}
 use Rattle.vhdx_sequence.specs.declared.Found.the-variants as found
 use Rattle.vhdx_sequence.specs.declared.lap.Place.{Place}
 use Rattle.vhdx_sequence.specs.declared.scan.Trace.{Trace}
 use Rattle.vhdx_sequence.specs.Sequence.{sequenceOf}
-use Rattle.vhdx_sequence.specs.Scan.{Placed, moved, State, stateOf, runFrom, goesOn}
+use Rattle.vhdx_sequence.specs.Scan.{Placed, State, stateOf}
 use Rattle.vhdx_pieces_scan.specs.declared.Stage.{Stage}
 use Rattle.vhdx_pieces_scan.specs.declared.Scanner.{Scanner}
 use Rattle.vhdx_pieces_scan.specs.Scanning.{placeAt, foundOf, traceOf, scannerAt}

@@ -1,38 +1,23 @@
--- What the code's tests decide, and that a scanner keeps to its bounds.
+-- What the code's tests decide, and what it asks at a moved place.
 -- Assumes nothing.
 use mathlib.Core.Path.{_≡_, refl, sym, ap, ap₂, _∙_, subst}
 use mathlib.Core.Bool.{Bool, true, false, cond, _&&_}
-use mathlib.Core.List.{List}
-use Prim.Native.Nat.{ℕ, _+_, _%_, _^_, _≤_, _<_}
+use Prim.Native.Nat.{ℕ, _+_, _%_, _≤_, _<_}
 use native.Mathlib.Omega.{arith}
 use native.Mathlib.Nat.{mod-lt, mod-add-mod, zero-mod}
 use lib.Dec.{ltb, eqb}
 use borrow.Author.Tests.{lt-ltb, le-ltb}
-use Rattle.field.specs.declared.Guid.{Guid}
-use Rattle.vhdx_entry.specs.declared.ring.RingPos.{RingPos}
 use Rattle.vhdx_entry.specs.declared.Entry.{Entry}
-use Rattle.vhdx_entry.specs.Entry.{signatureRule, sequenceNumber}
 use Rattle.vhdx_sequence.specs.declared.Found.{Found}
 use Rattle.vhdx_sequence.specs.declared.lap.Place.{Place}
 use Rattle.vhdx_sequence.specs.declared.scan.Trace.{Trace}
 use Rattle.vhdx_sequence.specs.Sequence.{sequenceOf}
-use Rattle.vhdx_sequence.specs.Scan.{Placed, moved, State, stateOf, fresh, runFrom, takenBy, goesOn, Taking}
-use Rattle.vhdx_pieces_entry.specs.declared.Progress.{Progress}
-use Rattle.vhdx_pieces_entry.specs.declared.Progress.the-variants.{More, Valid, Empty}
-use Rattle.vhdx_pieces_entry.specs.Pass as pass
-use Rattle.vhdx_pieces_scan.specs.declared.Stage.{Stage}
-use Rattle.vhdx_pieces_scan.specs.declared.Stage.the-variants.{First, Inside, Tail}
-use Rattle.vhdx_pieces_scan.specs.declared.Scanner.{Scanner}
+use Rattle.vhdx_sequence.specs.Scan.{Placed, moved, State, stateOf, fresh, runFrom, goesOn, Taking}
+use Rattle.vhdx_pieces_scan.specs.declared.Stage.the-variants.{First}
 use Rattle.vhdx_pieces_scan.specs.declared.Step.{Step}
 use Rattle.vhdx_pieces_scan.specs.declared.Step.the-variants.{Sector, Ended}
-use Rattle.vhdx_pieces_scan.specs.Scanning.{placeAt, foundOf, traceOf, scannerAt, wantedIn, wantedOf, resumed, progressed, taking, stepIn, stepOf, Upright, Staged, Sane, Onward}
-use Rattle.vhdx_pieces_scan.proofs.Told.{found-is, scanner-is}
-
-pub at-is : {t : Trace} {p : Place} {stage : Stage} → Upright t p × Staged (p .pos .len) stage
-    → (_≡_ {A = Step} (Sector (record { trace = t; place = p; stage = stage })) (Sector (scannerAt (p .pos .len) (p .count) (stateOf t) stage)))
-    × (Sane (record { trace = t; place = p; stage = stage }) × (p .pos .len ≡ p .pos .len))
-at-is {t} {p} {stage} h =
-    (ap {B = Step} Sector (scanner-is stage (h .0 .here) (h .0 .there)), (record { upright = h .0; staged = h .1 }, refl))
+use Rattle.vhdx_pieces_scan.specs.Scanning.{foundOf, scannerAt, resumed, Upright}
+use Rattle.vhdx_pieces_scan.proofs.Told.{found-is}
 
 -- ---- places
 
@@ -70,22 +55,17 @@ ended-is q = ap {B = Step} Ended (found-is q)
 
 -- an answer of `resume` at a moved place
 pub resumed-at : (p q : Place) (by : ℕ) (st st₂ : State) {r : Step} → q ≡ moved p by → st₂ ≡ st
-    → (r ≡ resumed (q .pos .len) (q .count) st₂) × Onward (q .pos .len) r
-    → (r ≡ resumed (p .pos .len) (p .count + by) st) × Onward (p .pos .len) r
-resumed-at p q by st st₂ {r} e f h =
-    let l : q .pos .len ≡ p .pos .len = ap (λ (x : Place). x .pos .len) e in
-    let k : q .count ≡ p .count + by = ap (λ (x : Place). x .count) e in
-    (h .0 ∙ ap₂ (λ (n u : ℕ). resumed n u st₂) l k ∙ ap (resumed (p .pos .len) (p .count + by)) f, subst (λ (n : ℕ). Onward n r) l (h .1))
+    → r ≡ resumed (q .pos .len) (q .count) st₂ → r ≡ resumed (p .pos .len) (p .count + by) st
+resumed-at p q by st st₂ e f h = h ∙ ap (λ (x : Place). resumed (x .pos .len) (x .count) st₂) e ∙ ap (resumed (p .pos .len) (p .count + by)) f
 
 -- what `resume` asks of a moved place
 abbrev pub Asked : Trace → Place → Type 0
-Asked t p = (p .pos .len < 1048576) × Placed (p .pos .len) p × Placed (p .pos .len) (t .start) × (t .start .count ≤ p .count)
+Asked t p = (p .pos .len < 1048576) × Placed (p .pos .len) p × Placed (p .pos .len) (t .start)
 
-pub asked-moved : {t : Trace} (t₂ : Trace) {p q : Place} (by : ℕ) → Upright t p → q ≡ moved p by → Placed (p .pos .len) (t₂ .start) → t₂ .start .count ≤ p .count + by → Asked t₂ q
-asked-moved t₂ {p} {q} by h e s b =
+pub asked-moved : {t : Trace} (t₂ : Trace) {p q : Place} (by : ℕ) → Upright t p → q ≡ moved p by → Placed (p .pos .len) (t₂ .start) → Asked t₂ q
+asked-moved t₂ {p} {q} by h e s =
     let l : q .pos .len ≡ p .pos .len = ap (λ (x : Place). x .pos .len) e in
-    let k : q .count ≡ p .count + by = ap (λ (x : Place). x .count) e in
-    (omega (arith, h .few), subst (λ (n : ℕ). Placed n q) (sym l) (placed-moved p by (h .here) e), subst (λ (n : ℕ). Placed n (t₂ .start)) (sym l) s, omega arith)
+    (omega (arith, h .few), subst (λ (n : ℕ). Placed n q) (sym l) (placed-moved p by (h .here) e), subst (λ (n : ℕ). Placed n (t₂ .start)) (sym l) s)
 
 pub may-take : {t : Trace} {p : Place} {e : Entry} → Upright t p → e .size ≤ p .pos .len → e .tail < p .pos .len → Taking p t e
 may-take {t} {p} {e} h a b =
@@ -103,10 +83,8 @@ pub asked-fresh : (t : Trace) {n : ℕ} → n < 1048576 → stateOf t ≡ fresh 
 asked-fresh t h e p l =
     let z : t .start .count ≡ 0 = ap (λ (x : State). x .start) e in
     let q : t .start .pos .at ≡ t .start .count % t .start .pos .len = p ∙ sym (ap (λ (x : ℕ). x % t .start .pos .len) z ∙ zero-mod (t .start .pos .len)) in
-    (omega arith, (q, refl), (q, refl), omega arith)
+    (omega arith, (q, refl), (q, refl))
 
 pub resumed-fresh : (t : Trace) {n : ℕ} {r : Step} → stateOf t ≡ fresh → t .start .pos .len ≡ n
-    → (r ≡ resumed (t .start .pos .len) (t .start .count) (stateOf t)) × Onward (t .start .pos .len) r → (r ≡ resumed n 0 fresh) × Onward n r
-resumed-fresh t {n} {r} e l h =
-    let z : t .start .count ≡ 0 = ap (λ (x : State). x .start) e in
-    (h .0 ∙ ap₂ (λ (n u : ℕ). resumed n u (stateOf t)) l z ∙ ap (resumed n 0) e, subst (λ (n : ℕ). Onward n r) l (h .1))
+    → r ≡ resumed (t .start .pos .len) (t .start .count) (stateOf t) → r ≡ resumed n 0 fresh
+resumed-fresh t e l h = h ∙ ap₂ (λ (n : ℕ) (st : State). resumed n (st .start) st) l e

@@ -1,7 +1,7 @@
 -- The scan for the active log sequence, in pieces: what a scanner wants, and what it does with it. A trace and a place are told
 -- by the state that they stand for: `traceOf`, `placeAt`.
 -- Assumes nothing.
-use mathlib.Core.Bool.{Bool, cond, _&&_}
+use mathlib.Core.Bool.{cond, _&&_}
 use mathlib.Core.List.{List}
 use mathlib.Core.Option.{Option, none, some}
 use mathlib.Core.Path.{_≡_}
@@ -19,7 +19,6 @@ use Rattle.vhdx_sequence.specs.declared.lap.Place.{Place}
 use Rattle.vhdx_sequence.specs.declared.scan.Trace.{Trace}
 use Rattle.vhdx_sequence.specs.Sequence.{sequenceOf, activeSequence}
 use Rattle.vhdx_sequence.specs.Scan.{Placed, State, stateOf, fresh, runFrom, takenBy, goesOn}
-use Rattle.vhdx_pieces_entry.specs.declared.Reading.{Reading}
 use Rattle.vhdx_pieces_entry.specs.declared.Progress.{Progress}
 use Rattle.vhdx_pieces_entry.specs.declared.Progress.the-variants.{More, Valid, Empty}
 use Rattle.vhdx_pieces_entry.specs.Pass as pass
@@ -96,7 +95,33 @@ abbrev pub Onward : ℕ → Step → Type 0
 Onward n (Sector s) = Sane s × (s .place .pos .len ≡ n)
 Onward n (Ended q) = Unit {0}
 
--- ---- the theorem
+-- ---- how many sectors it still asks for, at most
+
+-- at a place of a ring of n sectors: an entry has at most n, and one more is at its Tail
+abbrev pub leftIn : ℕ → Stage → ℕ
+leftIn n First = n + 1
+leftIn n (Inside x) = n + 1 - x .read
+leftIn n (Tail e) = 1
+
+-- at place u, and at each place after it in two laps
+abbrev pub leftAt : ℕ → ℕ → Stage → ℕ
+leftAt n u stage = (n + n - (u + 1)) * (n + 1) + leftIn n stage
+
+abbrev pub leftOf : Step → ℕ
+leftOf (Sector s) = leftAt (s .place .pos .len) (s .place .count) (s .stage)
+leftOf (Ended q) = 0
+
+-- ---- the theorems
+
+-- whatever is fed, it may be fed again, and asks for less
+abbrev pub ScanAdvances : Type 0
+ScanAdvances =
+    (guid : Guid) (s : Scanner) (p : List ℕ) → Sane s
+    → Onward (s .place .pos .len) (stepOf guid s p) × (leftOf (stepOf guid s p) < leftOf (Sector s))
+
+-- at the start, over n sectors
+abbrev pub ScanStarts : Type 0
+ScanStarts = (n : ℕ) → n < 1048576 → Onward n (resumed n 0 fresh) × (leftOf (resumed n 0 fresh) ≤ (n + n) * (n + 1))
 
 -- fed the sectors of a log that it wants, it ends with this sequence
 pub data Scans (log : List ℕ) (guid : Guid) : Step → Option Sequence → Type 0 where

@@ -8,11 +8,10 @@ use vhdx_sequence::Found;
 use vhdx_sequence::lap::Place;
 use vhdx_sequence::scan::Trace;
 ghost use mathlib.Core.Path.{_≡_};
-ghost use Prim.Native.Nat.{_+_, _%_, _≤_, _<_};
+ghost use Prim.Native.Nat.{_≤_, _<_};
 ghost use lib.ListN.{length};
 ghost use Rattle.vhdx_sequence.specs.Scan.{Placed, stateOf, fresh};
-ghost use Rattle.vhdx_pieces_entry.specs.Pass.{Kept};
-ghost use Rattle.vhdx_pieces_scan.specs.Scanning.{Upright, Staged, Sane, Onward, scannerAt, wantedOf, resumed, progressed, taking, stepOf};
+ghost use Rattle.vhdx_pieces_scan.specs.Scanning.{Upright, Sane, Onward, scannerAt, wantedOf, resumed, progressed, taking, stepOf};
 
 // At a place: what starts there is to be read, is being read, or is an entry whose Tail's sector is wanted.
 pub enum Stage {
@@ -73,8 +72,8 @@ pub fn next(s: Scanner, guid: field::Guid, sector: &[u8]) -> Step
 }
 
 fn take(trace: Trace, place: Place, e: Entry, sector: &[u8]) -> Step
-    requires { ⌜ Upright trace place × (0 < e .size) × (e .size ≤ place .pos .len) × (e .tail < place .pos .len) × (length (now sector) ≡ 4096) ⌝ }
-    ensures { λ r. ⌜ (r ≡ taking (place .pos .len) (place .count) (stateOf trace) e (now (sector .entry))) × Onward (place .pos .len) r ⌝ }
+    requires { ⌜ Upright trace place × (e .size ≤ place .pos .len) × (e .tail < place .pos .len) × (length (now sector) ≡ 4096) ⌝ }
+    ensures { λ r. ⌜ r ≡ taking (place .pos .len) (place .count) (stateOf trace) e (now (sector .entry)) ⌝ }
 {
     let after = trace.take_by(sector, place, e);
     resume(after, place.advance(e.size))
@@ -82,8 +81,8 @@ fn take(trace: Trace, place: Place, e: Entry, sector: &[u8]) -> Step
 
 // What came of a sector of an entry.
 fn progress(trace: Trace, place: Place, p: Progress) -> Step
-    requires { ⌜ Upright trace place × Kept (place .pos .len) p ⌝ }
-    ensures { λ r. ⌜ (r ≡ progressed (place .pos .len) (place .count) (stateOf trace) p) × Onward (place .pos .len) r ⌝ }
+    requires { ⌜ Upright trace place ⌝ }
+    ensures { λ r. ⌜ r ≡ progressed (place .pos .len) (place .count) (stateOf trace) p ⌝ }
 {
     match p {
         Progress::More(x) => at(trace, place, Stage::Inside(x)),
@@ -94,8 +93,8 @@ fn progress(trace: Trace, place: Place, p: Progress) -> Step
 
 // The next place, if the scan goes on. That it has not come to the end of the second lap holds of a log that does not change.
 fn resume(trace: Trace, place: Place) -> Step
-    requires { ⌜ (place .pos .len < 1048576) × Placed (place .pos .len) place × Placed (place .pos .len) (trace .start) × (trace .start .count ≤ place .count) ⌝ }
-    ensures { λ r. ⌜ (r ≡ resumed (place .pos .len) (place .count) (stateOf trace)) × Onward (place .pos .len) r ⌝ }
+    requires { ⌜ (place .pos .len < 1048576) × Placed (place .pos .len) place × Placed (place .pos .len) (trace .start) ⌝ }
+    ensures { λ r. ⌜ r ≡ resumed (place .pos .len) (place .count) (stateOf trace) ⌝ }
 {
     let best = trace.best;
     let n = place.pos.len;
@@ -108,8 +107,8 @@ fn resume(trace: Trace, place: Place) -> Step
 }
 
 fn at(trace: Trace, place: Place, stage: Stage) -> Step
-    requires { ⌜ Upright trace place × Staged (place .pos .len) stage ⌝ }
-    ensures { λ r. ⌜ (r ≡ Step.Sector (scannerAt (place .pos .len) (place .count) (stateOf trace) stage)) × Onward (place .pos .len) r ⌝ }
+    requires { ⌜ Placed (place .pos .len) place × Placed (place .pos .len) (trace .start) ⌝ }
+    ensures { λ r. ⌜ r ≡ Step.Sector (scannerAt (place .pos .len) (place .count) (stateOf trace) stage) ⌝ }
 {
     Step::Sector(Scanner {
         trace,

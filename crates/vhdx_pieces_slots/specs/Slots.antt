@@ -21,6 +21,7 @@
 --   growing, reading, writing
 --    1 to  6  order: length, count, log, start, left
 --   reading, writing
+--    7        how many sectors are not written yet
 --    8 to 14  walker: at, len, left, count, size, index, data
 --   15        stage: 1 header, 2 descriptors, 3 data, 4 sector, 5 zeros
 --   16 to 19  of data and sector: offset, leading, trailing, rank; of zeros: offset, length
@@ -306,10 +307,10 @@ walkerFrom slots =
     }
 
 unfoldable pub doingIn : Doing → List ℕ → List ℕ
-doingIn d slots = walkerIn (d .walker) (orderIn (d .order) slots)
+doingIn d slots = walkerIn (d .walker) (inSlots 7 (d .unwritten ∷ []) (orderIn (d .order) slots))
 
 unfoldable pub doingFrom : List ℕ → Doing
-doingFrom slots = record { order = orderFrom slots; walker = walkerFrom slots }
+doingFrom slots = record { order = orderFrom slots; walker = walkerFrom slots; unwritten = getD slots 7 0 }
 
 -- ---- a machine
 

@@ -238,6 +238,7 @@ fn doing(slots: &[u64; 64]) -> Doing
     Doing {
         order: order(slots),
         walker: walker(slots),
+        unwritten: slots[7],
     }
 }
 

@@ -191,6 +191,7 @@ pub fn doing(d: Doing, slots: &mut [u64; 64])
     let o = d.order;
     let w = d.walker;
     order(o, slots);
+    slots[7] = d.unwritten;
     walker(w, slots);
 }
 

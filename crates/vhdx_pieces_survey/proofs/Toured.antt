@@ -1,35 +1,32 @@
 -- Fed the log's sectors, the tour ends with the survey of all descriptors and what the head says.
 -- Assumes nothing.
 use mathlib.Core.Path.{_≡_, refl, sym, ap, ap₂, _∙_, subst}
-use mathlib.Core.Bool.{Bool, true, false, cond, _&&_, _||_}
-use mathlib.Core.List.{List, [], _∷_}
-use Prim.Native.Nat.{ℕ, zero, suc, _+_, _-_, _*_, _/_, _%_, _≤_, _<_, min, max}
-use native.Mathlib.Nat.{add-zero, add-suc, mod-eq-of-lt, mod-lt}
-use native.Mathlib.Decide.{decLt}
+use mathlib.Core.Bool.{Bool, true, false, cond, _||_}
+use mathlib.Core.List.{List, _∷_}
+use Prim.Native.Nat.{ℕ, zero, suc, _+_, _-_, _*_, _%_, _≤_, _<_, min}
+use native.Mathlib.Nat.{add-zero, mod-eq-of-lt, mod-lt}
 use native.Mathlib.Numerals.{add-one}
 use native.Mathlib.Omega.{arith}
-use lib.Dec.{eqb, leb, ltb, eqb·suc-zero}
+use lib.Dec.{ltb, eqb·suc-zero}
 use lib.ListN.{length}
-use borrow.Author.Tests.{lt-ltb, le-ltb, le-leb, ltb-true, ltb-false}
+use borrow.Author.Tests.{lt-ltb, le-leb, ltb-true, ltb-false}
 use Rattle.extent.specs.declared.Extent.{Extent}
-use Rattle.vhdx_entry.specs.declared.ring.RingPos.{RingPos}
 use Rattle.vhdx_entry.specs.Ring.{sectorCount, ring, sectorAt, On}
-use Rattle.vhdx_entry.specs.Entry.{descriptor, descriptorCount, descriptorSectors, isData, fileOffset, zeroLength, entryLength, flushedFileOffset, lastFileOffset, size, dataCount, behind, dataBefore, dataSector}
+use Rattle.vhdx_entry.specs.Entry.{descriptor, descriptorCount, descriptorSectors, isData, fileOffset, zeroLength, flushedFileOffset, lastFileOffset, size, behind, dataBefore, dataSector}
 use Rattle.vhdx_entry.proofs.Laws.{sector-on, first-field}
 use Rattle.vhdx_walk.specs.declared.run.Source.the-variants.{Zeros}
-use Rattle.vhdx_walk.specs.Entries.{Descriptor, writes, zeros, head, allDescriptors, sectorsAt}
-use Rattle.vhdx_walk.specs.Bytes.{descriptorOf, sectorBytes, entriesFrom, logEntry}
-use Rattle.vhdx_walk.specs.Cursor.{descriptorsOn, Readable, AllReadable, Walkable}
-use Rattle.vhdx_walk.proofs.Parts.{zeros-whole, size-fits, length-exact, same-count, same-length, size-within, size-read}
+use Rattle.vhdx_walk.specs.Entries.{Descriptor, writes, zeros, head, allDescriptors}
+use Rattle.vhdx_walk.specs.Bytes.{descriptorOf, sectorBytes, entriesFrom}
+use Rattle.vhdx_walk.specs.Cursor.{descriptorsOn, Readable, AllReadable}
+use Rattle.vhdx_walk.proofs.Parts.{zeros-whole, size-within, size-read}
 use Rattle.vhdx_walk.proofs.Runs.{length-sectors}
-use Rattle.vhdx_walk.proofs.Moves.{on-descriptor, on-entry, on-done, first-readable, rest-readable}
-use Rattle.vhdx_walk.proofs.Chains.{chain-descriptors, head-onward, head-only}
+use Rattle.vhdx_walk.proofs.Moves.{on-descriptor, on-entry}
+use Rattle.vhdx_walk.proofs.Chains.{chain-descriptors}
 use Rattle.vhdx_log.specs.declared.survey.Survey.{Survey}
-use Rattle.vhdx_log.specs.Survey.{surveyOf, added, capped}
-use Rattle.vhdx_log.specs.Work.{lies, someLies}
+use Rattle.vhdx_log.specs.Survey.{added, capped}
+use Rattle.vhdx_log.specs.Work.{lies}
 use Rattle.vhdx_log.proofs.Lies.{lies-whole}
 use Rattle.vhdx_log.proofs.Surveys.{survey-path, with, surveyFrom, survey-onward, surveyed}
-use Rattle.vhdx_pieces_entry.specs.Sector.{descriptorIn, lengthIn}
 use Rattle.vhdx_pieces_entry.specs.Pass.{fromOf, placesIn}
 use Rattle.vhdx_pieces_entry.proofs.Split.{in-sector}
 use Rattle.vhdx_pieces_entry.proofs.Passing.{seenAt, begins-at, all-seen, fits-in, seen-next}
@@ -37,7 +34,7 @@ use Rattle.vhdx_pieces_survey.specs.declared.Tour.{Tour}
 use Rattle.vhdx_pieces_survey.specs.declared.Report.{Report}
 use Rattle.vhdx_pieces_survey.specs.declared.Step.{Step}
 use Rattle.vhdx_pieces_survey.specs.declared.Step.the-variants.{Sector, Ended, Broken}
-use Rattle.vhdx_pieces_survey.specs.Touring.{addedBy, surveyIn, wantedOf, atHeader, empty, started, opened, further, movedOn, here, passed, fits, stepOf, Surveys, stop, next, reportOf, SurveysAll}
+use Rattle.vhdx_pieces_survey.specs.Touring.{addedBy, surveyIn, atHeader, empty, started, opened, further, movedOn, passed, fits, stepOf, Surveys, stop, next, SurveysAll}
 
 -- ---- one descriptor
 

@@ -8,7 +8,7 @@ use lib.Dec.{eqb, leb, ltb}
 use Rattle.extent.specs.declared.Extent.{Extent}
 use Rattle.vhdx_entry.specs.declared.ring.RingPos.{RingPos}
 use Rattle.vhdx_entry.specs.Ring.{sectorCount, sectorAt, advanced}
-use Rattle.vhdx_entry.specs.Entry.{isData, fileOffset, zeroLength, descriptorCount, descriptorSectors, entryLength, flushedFileOffset, lastFileOffset}
+use Rattle.vhdx_entry.specs.Entry.{fileOffset, descriptorCount, descriptorSectors, entryLength, flushedFileOffset, lastFileOffset}
 use Rattle.vhdx_walk.specs.Entries.{head, allDescriptors}
 use Rattle.vhdx_walk.specs.Bytes.{entriesFrom}
 use Rattle.vhdx_walk.specs.Cursor.{Walkable}
@@ -123,7 +123,27 @@ Onward n (Sector t) = Sane t × (t .pos .len ≡ n)
 Onward n (Ended r) = Unit {0}
 Onward n Broken = Unit {0}
 
--- ---- the theorem
+-- ---- how many sectors it still asks for, at most
+
+-- of the entry it is in, and as many as the log has of each entry after it
+abbrev pub leftOf : Step → ℕ
+leftOf (Sector t) = (t .left - 1) * t .pos .len + (t .pos .len - t .read)
+leftOf (Ended r) = 0
+leftOf Broken = 0
+
+-- ---- the theorems
+
+-- whatever is fed, it may be fed again, and asks for less
+abbrev pub SurveyAdvances : Type 0
+SurveyAdvances =
+    (e : Extent) (t : Tour) (p : List ℕ) → Sane t
+    → Onward (t .pos .len) (stepOf e t p) × (leftOf (stepOf e t p) < leftOf (Sector t))
+
+-- at the start
+abbrev pub SurveyStarts : Type 0
+SurveyStarts =
+    (pos : RingPos) (more : ℕ) → pos .at < pos .len → pos .len < 1048576 → more < pos .len
+    → Onward (pos .len) (started pos more) × (leftOf (started pos more) ≤ pos .len * pos .len)
 
 -- fed the sectors of a log that it wants, it ends with this report
 pub data Surveys (log : List ℕ) (e : Extent) : Step → Report → Type 0 where

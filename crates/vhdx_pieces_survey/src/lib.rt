@@ -113,7 +113,7 @@ fn opened(t: Tour, h: &[u8]) -> Tour
 // A sector with descriptors.
 fn pass(t: Tour, log: Extent, sector: &[u8]) -> Step
     requires { ⌜ Opened t × (length (now sector) ≡ 4096) ⌝ }
-    ensures { λ r. ⌜ (r ≡ passed log t (now (sector .entry))) × Onward (t .pos .len) r ⌝ }
+    ensures { λ r. ⌜ r ≡ passed log t (now (sector .entry)) ⌝ }
 {
     let m = vhdx_pieces_entry::here(t.count - t.seen, t.read);
     let from = vhdx_pieces_entry::from(t.read);
@@ -154,7 +154,7 @@ fn add(found: Survey, log: Extent, d: &[u8]) -> Survey
 // Past m descriptors, with the survey that they made: the next sector of the entry, the next entry, or the end.
 fn moved(t: Tour, m: usize, found: Survey) -> Step
     requires { ⌜ Opened t × Full t m ⌝ }
-    ensures { λ r. ⌜ (r ≡ movedOn t m found) × Onward (t .pos .len) r ⌝ }
+    ensures { λ r. ⌜ r ≡ movedOn t m found ⌝ }
 {
     let pos = t.pos;
     if t.seen + m < t.count {

@@ -1,4 +1,4 @@
--- What the code's tests decide, and that a walker keeps to its bounds.
+-- What the code's tests decide, and an entry's bounds as a walker moves in it.
 -- Assumes nothing.
 use mathlib.Core.Path.{_≡_, refl, sym, ap, ap₂, _∙_, subst}
 use mathlib.Core.Bool.{Bool, true, false, not, cond, _&&_, and-eq-true-iff}
@@ -23,7 +23,7 @@ use Rattle.vhdx_pieces_walk.specs.declared.Stage.the-variants as stage
 use Rattle.vhdx_pieces_walk.specs.declared.Walker.{Walker}
 use Rattle.vhdx_pieces_walk.specs.declared.Step.{Step}
 use Rattle.vhdx_pieces_walk.specs.declared.Step.the-variants.{Read, Write, Ended, Broken}
-use Rattle.vhdx_pieces_walk.specs.Walking.{staged, atHeader, resumed, idleFrom, pastBy, allowed, beyondBy, heldIn, met, fromIn, hereIn, lookedAt, looked, opened, fits, stepIn, stepOf, Standing, Opened, Staged, Sane, Onward}
+use Rattle.vhdx_pieces_walk.specs.Walking.{staged, atHeader, resumed, idleFrom, pastBy, allowed, beyondBy, heldIn, met, fromIn, hereIn, lookedAt, looked, opened, fits, stepIn, stepOf, Standing, Opened}
 
 pub opened-staged : (w : Walker) (s : Stage) → Opened w → Opened (staged w s)
 opened-staged w s o =
@@ -40,8 +40,8 @@ opened-beyond w k s o h l =
 pub header-standing : (pos : RingPos) (left : ℕ) → pos .at < pos .len → pos .len < 1048576 → 0 < left → left ≤ pos .len → Standing (atHeader pos left)
 header-standing pos left a b c d = record { on = a; few = b; some = c; bounded = d }
 
-pub opened-is : (w : Walker) (s : List ℕ) {o : Walker} → Standing w → o ≡ opened w s → o .count < 4294967296 → fits o ≡ true → Opened o
-opened-is w s {o} st e c f =
+pub opened-is : (w : Walker) (s : List ℕ) (o : Walker) → Standing w → o ≡ opened w s → fits o ≡ true → Opened o
+opened-is w s o st e f =
     let both = and-eq-true-iff (leb (descriptorSectors (o .count)) (o .size)) (leb (o .size) (o .pos .len)) .0 f in
     let p : o .pos ≡ w .pos = ap (λ (x : Walker). x .pos) e in
     let l : o .left ≡ w .left = ap (λ (x : Walker). x .left) e in
@@ -49,13 +49,15 @@ opened-is w s {o} st e c f =
     let d : o .«data» ≡ 0 = ap (λ (x : Walker). x .«data») e in
     let a : o .pos .at ≡ w .pos .at = ap (λ (x : RingPos). x .at) p in
     let n : o .pos .len ≡ w .pos .len = ap (λ (x : RingPos). x .len) p in
+    let front : descriptorSectors (o .count) ≤ o .size = leb-true _ _ (both .0) in
+    let size : o .size ≤ o .pos .len = leb-true _ _ (both .1) in
     record {
       standing = record { on = omega (arith, st .on); few = omega (arith, st .few); some = omega (arith, st .some); bounded = omega (arith, st .bounded) };
-      small = c;
+      small = omega (arith, st .few);
       index = omega arith;
       rank = omega arith;
-      front = leb-true _ _ (both .0);
-      size = leb-true _ _ (both .1);
+      front = front;
+      size = size;
     }
 
 -- ---- descriptors that name nothing
@@ -100,44 +102,32 @@ module _ (b : Bounds) (w : Walker) (d : List ℕ) where
   unfolding met
   met-short h e f = rw (h, e, f)
 
-pub ends-small : (b : Bounds) (offset n : ℕ) → allowed b offset n ≡ true → b .limit < 18446744073709551616 → offset + n < 18446744073709551616
-ends-small b offset n h l =
-    let e : offset + n ≤ b .limit = leb-true (offset + n) (b .limit) (and-eq-true-iff (inside offset n (b .limit)) (eqb (n % 4096) 0 && not (lies (b .log) offset n)) .0 h .0) in
-    omega arith
-
 module _ (b : Bounds) (w : Walker) (s : List ℕ) {m i : ℕ} (p : m ≡ hereIn w) (q : i ≡ idleFrom s (fromIn w) 0 m) where
   at-same : lookedAt b w s (fromIn w) m i ≡ looked b w s
   unfolding looked
   at-same = ap₂ (lookedAt b w s (fromIn w)) p q ∙ ap (λ (x : ℕ). lookedAt b w s (fromIn w) (hereIn w) (idleFrom s (fromIn w) 0 x)) p
 
-  pub looked-met : i < m → (x : Walker) {d : List ℕ} {r : Step} → x ≡ pastBy w i → d ≡ take 32 (drop (fromIn w + 32 * i) s)
-      → (r ≡ met b x d) × Onward (x .pos .len) r → (r ≡ looked b w s) × Onward (w .pos .len) r
+  pub looked-met : i < m → {x : Walker} {d : List ℕ} → x ≡ pastBy w i → d ≡ take 32 (drop (fromIn w + 32 * i) s) → met b x d ≡ looked b w s
   unfolding descriptorIn
-  looked-met l x {d} {r} e f h = (
-    h .0 ∙ ap₂ (met b) e f ∙ sym (ap (λ (t : Bool). cond t (met b (pastBy w i) (take 32 (drop (fromIn w + 32 * i) s))) (resumed (pastBy w i))) (lt-ltb i m l)) ∙ at-same,
-    subst (λ (n : ℕ). Onward n r) (ap (λ (y : Walker). y .pos .len) e) (h .1),
-  )
+  looked-met l e f =
+      ap₂ (met b) e f ∙ sym (ap (λ (t : Bool). cond t (met b (pastBy w i) (take 32 (drop (fromIn w + 32 * i) s))) (resumed (pastBy w i))) (lt-ltb i m l)) ∙ at-same
 
-  pub looked-past : m ≤ i → (x : Walker) {r : Step} → x ≡ pastBy w i → (r ≡ resumed x) × Onward (x .pos .len) r → (r ≡ looked b w s) × Onward (w .pos .len) r
+  pub looked-past : m ≤ i → {x : Walker} → x ≡ pastBy w i → resumed x ≡ looked b w s
   unfolding descriptorIn
-  looked-past l x {r} e h = (
-    h .0 ∙ ap resumed e ∙ sym (ap (λ (t : Bool). cond t (met b (pastBy w i) (take 32 (drop (fromIn w + 32 * i) s))) (resumed (pastBy w i))) (le-ltb i m l)) ∙ at-same,
-    subst (λ (n : ℕ). Onward n r) (ap (λ (y : Walker). y .pos .len) e) (h .1),
-  )
+  looked-past l e =
+      ap resumed e ∙ sym (ap (λ (t : Bool). cond t (met b (pastBy w i) (take 32 (drop (fromIn w + 32 * i) s))) (resumed (pastBy w i))) (le-ltb i m l)) ∙ at-same
 
-module _ (b : Bounds) (w : Walker) (s : List ℕ) where
-  pub header-turn : (o : Walker) {r : Step} → w .stage ≡ stage.Header → o ≡ opened w s → fits o ≡ true → (r ≡ looked b o s) × Onward (o .pos .len) r → (r ≡ stepOf b w s) × Onward (w .pos .len) r
+module _ (b : Bounds) (w : Walker) (s : List ℕ) (o : Walker) (st : w .stage ≡ stage.Header) (q : o ≡ opened w s) where
+  pub header-turn : fits o ≡ true → looked b o s ≡ stepOf b w s
   unfolding stepOf
-  header-turn o {r} st q f p = (
-    p .0 ∙ ap (λ (x : Walker). looked b x s) q
-        ∙ sym (ap (λ (t : Bool). cond t (looked b (opened w s) s) Broken) (sym (ap fits q) ∙ f))
-        ∙ sym (ap (λ (x : Stage). stepIn b w x s) st),
-    subst (λ (n : ℕ). Onward n r) (ap (λ (x : Walker). x .pos .len) q) (p .1),
-  )
+  header-turn f =
+      ap (λ (x : Walker). looked b x s) q
+      ∙ sym (ap (λ (t : Bool). cond t (looked b (opened w s) s) Broken) (sym (ap fits q) ∙ f))
+      ∙ sym (ap (λ (x : Stage). stepIn b w x s) st)
 
-  pub broken-turn : (o : Walker) → w .stage ≡ stage.Header → o ≡ opened w s → fits o ≡ false → Broken ≡ stepOf b w s
+  pub broken-turn : fits o ≡ false → Broken ≡ stepOf b w s
   unfolding stepOf
-  broken-turn o st q f =
+  broken-turn f =
       sym (ap (λ (t : Bool). cond t (looked b (opened w s) s) Broken) (sym (ap fits q) ∙ f)) ∙ sym (ap (λ (x : Stage). stepIn b w x s) st)
 
 pub here-fits : (index count : ℕ) → (64 + 32 * index) % 4096 + 32 * min (count - index) ((4096 - (64 + 32 * index) % 4096) / 32) ≤ 4096

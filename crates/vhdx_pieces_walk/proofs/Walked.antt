@@ -12,6 +12,8 @@ use lib.Dec.{T, eqb, leb, ltb}
 use lib.ListN.{length, take, drop, length-drop}
 use lib.Seq.{length-take-le}
 use borrow.Author.Tests.{lt-ltb, le-ltb, le-leb, eq-eqb, ne-eqb, eqb-true, eqb-false}
+use Rattle.field.specs.Fields.{leBytes, Bytes, field}
+use Rattle.field.proofs.Bytes.{bytes-append, bytes-take, bytes-drop, bytes-field}
 use Rattle.extent.specs.declared.Extent.{Extent}
 use Rattle.extent.specs.Extent.{inside}
 use Rattle.vhdx_entry.specs.declared.ring.RingPos.{RingPos}
@@ -24,7 +26,7 @@ use Rattle.vhdx_walk.specs.Cursor.{descriptorsOn, Readable, AllReadable}
 use Rattle.vhdx_walk.proofs.Parts.{zeros-whole, descriptors-fit, data-rank, same-length, size-within, size-read}
 use Rattle.vhdx_walk.proofs.Moves.{on-descriptor, on-entry, on-done}
 use Rattle.vhdx_log.specs.Work.{lies, someLies}
-use Rattle.vhdx_log.proofs.Lies.{lies-whole, lies-append}
+use Rattle.vhdx_log.proofs.Lies.{lies-append}
 use Rattle.vhdx_pieces_entry.specs.Sector.{descriptorIn, lengthIn}
 use Rattle.vhdx_pieces_entry.proofs.Split.{in-sector}
 use Rattle.vhdx_pieces_walk.specs.declared.Bounds.{Bounds}
@@ -35,33 +37,22 @@ use Rattle.vhdx_pieces_walk.specs.declared.Walker.{Walker}
 use Rattle.vhdx_pieces_walk.specs.declared.Step.{Step}
 use Rattle.vhdx_pieces_walk.specs.declared.Step.the-variants.{Read, Write, Ended, Broken}
 use Rattle.vhdx_pieces_walk.specs.Walking as walking
-use Rattle.vhdx_pieces_walk.specs.Walking.{staged, atHeader, started, wantedOf, resumed, idleFrom, pastBy, allowed, beyondBy, heldIn, met, fromIn, hereIn, lookedAt, looked, opened, fits, stepOf, wroteOf, bytesOf, writtenOf, Writes, Bytes, WritesAll}
+use Rattle.vhdx_pieces_walk.specs.Walking.{staged, atHeader, started, wantedOf, resumed, idleFrom, pastBy, allowed, beyondBy, heldIn, met, fromIn, hereIn, lookedAt, looked, opened, fits, stepOf, wroteOf, writtenOf, Writes, WritesAll}
+use Rattle.vhdx_pieces_walk.proofs.Allowed.{none-of, allowed-run}
 use Rattle.vhdx_pieces_walk.proofs.Turns.{idle-stop, idle-more, met-data, met-zeros}
-use Rattle.vhdx_pieces_walk.proofs.Digits.{bytes-take, bytes-drop, bytes-append, bytes-field}
 
 -- what is left may be written
 record Fine (b : Bounds) (ds : List Descriptor) : Type 0 where
   bounded : furthest ds ≤ b .limit
   apart : someLies (b .log) (sectors ds) ≡ false
 
-left-no : (x y : Bool) → (x || y) ≡ false → (x ≡ false) × (y ≡ false)
-left-no true y h = absurd (subst T h tt)
-left-no false y h = (refl, h)
-
 fine-rest : (b : Bounds) (d : Descriptor) (ds : List Descriptor) → Fine b (d ∷ ds) → Fine b ds
 fine-rest b d ds f =
-    record { bounded = omega (arith, f .bounded); apart = left-no (someLies (b .log) (sectorsOf d)) (someLies (b .log) (sectors ds)) (sym (lies-append (b .log) (sectorsOf d) (sectors ds)) ∙ f .apart) .1 }
+    record { bounded = omega (arith, f .bounded); apart = none-of (someLies (b .log) (sectorsOf d)) (someLies (b .log) (sectors ds)) (sym (lies-append (b .log) (sectorsOf d) (sectors ds)) ∙ f .apart) .1 }
 
 fine-first : (b : Bounds) (d : Descriptor) (ds : List Descriptor) → Fine b (d ∷ ds) → (end d ≤ b .limit) × (someLies (b .log) (sectorsOf d) ≡ false)
 fine-first b d ds f =
-    (omega (arith, f .bounded), left-no (someLies (b .log) (sectorsOf d)) (someLies (b .log) (sectors ds)) (sym (lies-append (b .log) (sectorsOf d) (sectors ds)) ∙ f .apart) .0)
-
--- such a run is allowed
-allowed-run : (b : Bounds) (offset k : ℕ) (bytes : List ℕ) → offset + k * 4096 ≤ b .limit → someLies (b .log) (sectorsAt k offset bytes) ≡ false → allowed b offset (k * 4096) ≡ true
-allowed-run b offset k bytes h a =
-    let l = sym (lies-whole (b .log) k offset bytes) ∙ a in
-    let z : k * 4096 % 4096 ≡ 0 = omega arith in
-    rw (le-leb (offset + k * 4096) (b .limit) h, eq-eqb (k * 4096 % 4096) 0 z, l)
+    (omega (arith, f .bounded), none-of (someLies (b .log) (sectorsOf d)) (someLies (b .log) (sectors ds)) (sym (lies-append (b .log) (sectorsOf d) (sectors ds)) ∙ f .apart) .0)
 
 module _ (log : List ℕ) (b : Bounds) (s left : ℕ) (on : On log (record { at = s; len = sectorCount log })) (readable : Readable (ring log s)) (some : 0 < left) (bytes : Bytes log) where
   abbrev r : List ℕ

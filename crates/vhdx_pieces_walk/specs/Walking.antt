@@ -1,16 +1,16 @@
 -- The walk over a found sequence's sectors in pieces: what a walker wants or writes, and what it does then.
 -- Assumes nothing.
-use mathlib.Core.Bool.{Bool, false, not, cond, _&&_}
+use mathlib.Core.Bool.{Bool, true, false, not, cond, _&&_}
 use mathlib.Core.List.{List, [], _∷_, _++_}
 use mathlib.Core.Path.{_≡_}
 use Prim.Native.Nat.{ℕ, zero, suc, _+_, _-_, _*_, _/_, _%_, _≤_, _<_, min}
 use lib.Dec.{eqb, leb, ltb}
-use lib.ListN.{length, take, drop, getD}
+use lib.ListN.{length, take, drop}
 use Rattle.extent.specs.declared.Extent.{Extent}
-use Rattle.extent.specs.Extent.{inside}
-use Rattle.field.specs.Fields.{field}
+use Rattle.extent.specs.Extent.{MiB, inside, shares}
+use Rattle.field.specs.Fields.{leBytes, Bytes, field}
 use Rattle.vhdx_entry.specs.declared.ring.RingPos.{RingPos}
-use Rattle.vhdx_entry.specs.Ring.{sectorCount, sectorAt, advanced}
+use Rattle.vhdx_entry.specs.Ring.{sectorSize, sectorCount, sectorAt, advanced}
 use Rattle.vhdx_entry.specs.Entry.{isData, fileOffset, zeroLength, descriptorCount, descriptorSectors, entryLength}
 use Rattle.vhdx_walk.specs.Entries.{Sector, sectors, furthest, zeroSector}
 use Rattle.vhdx_walk.specs.Cursor.{descriptorsOn, AllReadable}
@@ -138,41 +138,96 @@ pub record Opened (w : Walker) : Type 0 where
   pub front : descriptorSectors (w .count) ≤ w .size
   pub size : w .size ≤ w .pos .len
 
-abbrev pub Staged : Walker → Stage → Type 0
-Staged w stage.Header = Standing w
-Staged w stage.Descriptors = Opened w × (w .index < w .count)
-Staged w (stage.Data d) = Opened w × (descriptorSectors (w .count) + d .rank < w .size)
-Staged w (stage.Sector d) = Opened w
-Staged w (stage.Zeros e) = Opened w × (e .offset + e .length < 18446744073709551616)
+-- where a sector is wanted; what is held may be written
+abbrev pub ReadingIn : Bounds → Walker → Stage → Type 0
+ReadingIn b w stage.Header = Standing w
+ReadingIn b w stage.Descriptors = Opened w × (w .index < w .count)
+ReadingIn b w (stage.Data d) = Opened w × (descriptorSectors (w .count) + d .rank < w .size) × (allowed b (d .offset) 4096 ≡ true)
+ReadingIn b w (stage.Sector d) = ⊥
+ReadingIn b w (stage.Zeros e) = ⊥
 
-abbrev pub Sane : Walker → Type 0
-Sane w = Staged w (w .stage)
+-- where a sector is to be written, and may be
+abbrev pub WritingIn : Bounds → Walker → Stage → Type 0
+WritingIn b w (stage.Sector d) = Opened w × (allowed b (d .offset) 4096 ≡ true)
+WritingIn b w (stage.Zeros e) = Opened w × (0 < e .length) × (allowed b (e .offset) (e .length) ≡ true)
+WritingIn b w stage.Header = ⊥
+WritingIn b w stage.Descriptors = ⊥
+WritingIn b w (stage.Data d) = ⊥
 
-abbrev pub Onward : ℕ → Step → Type 0
-Onward n (Read w) = Sane w × (w .pos .len ≡ n)
-Onward n (Write w) = Sane w × (w .pos .len ≡ n)
-Onward n Ended = Unit {0}
-Onward n Broken = Unit {0}
+abbrev pub SaneReading : Bounds → Walker → Type 0
+SaneReading b w = ReadingIn b w (w .stage)
+
+abbrev pub SaneWriting : Bounds → Walker → Type 0
+SaneWriting b w = WritingIn b w (w .stage)
+
+abbrev pub Onward : Bounds → ℕ → Step → Type 0
+Onward b n (Read w) = SaneReading b w × (w .pos .len ≡ n)
+Onward b n (Write w) = SaneWriting b w × (w .pos .len ≡ n)
+Onward b n Ended = Unit {0}
+Onward b n Broken = Unit {0}
 
 -- ---- what is written
 
--- the k bytes that a number stands for
-unfoldable pub bytesOf : ℕ → ℕ → List ℕ
-bytesOf zero x = []
-bytesOf (suc k) x = (x % 256) ∷ bytesOf k (x / 256)
+-- a data sector with the bytes at its two ends that its descriptor holds
+abbrev pub dataSector : Held → List ℕ → List ℕ
+dataSector d p = leBytes 8 (d .leading) ++ (take 4084 (drop 8 p) ++ leBytes 4 (d .trailing))
 
--- with the data sector, which was read last, in p
+-- with the data sector, which was read last, in p; nothing is written in the other stages
 abbrev pub writtenIn : Stage → List ℕ → Sector
-writtenIn (stage.Sector d) p = record { offset = d .offset; bytes = bytesOf 8 (d .leading) ++ (take 4084 (drop 8 p) ++ bytesOf 4 (d .trailing)) }
+writtenIn (stage.Sector d) p = record { offset = d .offset; bytes = dataSector d p }
 writtenIn (stage.Zeros e) p = record { offset = e .offset; bytes = zeroSector }
-writtenIn stage.Header p = record { offset = 0; bytes = [] }
-writtenIn stage.Descriptors p = record { offset = 0; bytes = [] }
-writtenIn (stage.Data d) p = record { offset = 0; bytes = [] }
+writtenIn stage.Header p = record { offset = 0; bytes = p }
+writtenIn stage.Descriptors p = record { offset = 0; bytes = p }
+writtenIn (stage.Data d) p = record { offset = 0; bytes = p }
 
 abbrev pub writtenOf : Walker → List ℕ → Sector
 writtenOf w p = writtenIn (w .stage) p
 
--- ---- the theorem
+-- not in the first MiB, not in the log, within the final length
+pub record Apart (b : Bounds) (s : Sector) : Type 0 where
+  pub behind : MiB ≤ s .offset
+  pub within : s .offset + sectorSize ≤ b .limit
+  pub outside : shares (s .offset) sectorSize (b .log .offset) (b .log .length) ≡ false
+
+-- so is what is written, whatever was fed, and it is a whole sector
+abbrev pub WritesApart : Type 0
+WritesApart =
+    (b : Bounds) (w : Walker) (p : List ℕ) → SaneWriting b w
+    → Apart b (writtenOf w p) × (length p ≡ sectorSize → length (writtenOf w p .bytes) ≡ sectorSize)
+
+-- ---- how much is left
+
+-- of the descriptors behind the one in hand, an entry counted for 2^32 of them, and each of them for more than a run has bytes
+abbrev pub leftBehind : Bounds → Walker → ℕ
+leftBehind b w = ((w .left - 1) * 4294967296 + (w .count - w .index)) * (b .limit + 3)
+
+abbrev pub leftIn : Bounds → Walker → Stage → ℕ
+leftIn b w stage.Header = w .left * 4294967296 * (b .limit + 3)
+leftIn b w stage.Descriptors = leftBehind b w
+leftIn b w (stage.Data d) = leftBehind b w + 2
+leftIn b w (stage.Sector d) = leftBehind b w + 1
+leftIn b w (stage.Zeros e) = leftBehind b w + e .length
+
+abbrev pub leftOf : Bounds → Step → ℕ
+leftOf b (Read w) = leftIn b w (w .stage)
+leftOf b (Write w) = leftIn b w (w .stage)
+leftOf b Ended = 0
+leftOf b Broken = 0
+
+-- ---- the theorems
+
+-- whatever is fed, it keeps to its bounds and comes nearer to its end
+abbrev pub WalkAdvances : Type 0
+WalkAdvances =
+    (b : Bounds) (w : Walker) (p : List ℕ)
+    → (SaneReading b w → Onward b (w .pos .len) (stepOf b w p) × (leftOf b (stepOf b w p) < leftOf b (Read w)))
+    × (SaneWriting b w → Onward b (w .pos .len) (wroteOf w) × (leftOf b (wroteOf w) < leftOf b (Write w)))
+
+-- so from its start on
+abbrev pub WalkStarts : Type 0
+WalkStarts =
+    (b : Bounds) (pos : RingPos) (left : ℕ) → (0 < left → pos .at < pos .len) → pos .len < 1048576 → left ≤ pos .len
+    → Onward b (pos .len) (started pos left) × (leftOf b (started pos left) ≤ 4503599627370496 * (b .limit + 3))
 
 -- fed the sectors of a log that it wants, with p read last, it ends, having written these
 pub data Writes (log : List ℕ) (b : Bounds) : List ℕ → Step → List Sector → Type 0 where
@@ -180,10 +235,6 @@ pub data Writes (log : List ℕ) (b : Bounds) : List ℕ → Step → List Secto
   reads : {p : List ℕ} {w : Walker} {ss : List Sector} → wantedOf w < sectorCount log
       → Writes log b (sectorAt log (wantedOf w)) (stepOf b w (sectorAt log (wantedOf w))) ss → Writes log b p (Read w) ss
   writes : {p : List ℕ} {w : Walker} {ss : List Sector} → ((p₂ : List ℕ) → Writes log b p₂ (wroteOf w) ss) → Writes log b p (Write w) (writtenOf w p ∷ ss)
-
--- a list of bytes
-abbrev pub Bytes : List ℕ → Type 0
-Bytes p = (i : ℕ) → getD p i 0 < 256
 
 abbrev pub WritesAll : Type 0
 WritesAll =

@@ -8,7 +8,7 @@ use vhdx_pieces_entry::sector as bytes;
 ghost use mathlib.Core.Path.{_≡_};
 ghost use Prim.Native.Nat.{_+_, _*_, _≤_, _<_, min};
 ghost use lib.ListN.{length};
-ghost use Rattle.vhdx_pieces_walk.specs.Walking.{Opened, Sane, Onward, wantedOf, started, staged, resumed, idleFrom, pastBy, allowed, beyondBy, met, looked, opened as openedOf, stepOf, wroteOf};
+ghost use Rattle.vhdx_pieces_walk.specs.Walking.{Opened, SaneReading, SaneWriting, Onward, wantedOf, started, staged, resumed, idleFrom, pastBy, allowed, beyondBy, met, looked, opened as openedOf, stepOf, wroteOf};
 
 // The log's place in the file, and the file's final length.
 pub struct Bounds {
@@ -61,7 +61,7 @@ pub enum Step {
 // Over the `left` entries from a position on.
 pub fn start(pos: RingPos, left: u64) -> Step
     requires { ⌜ (0 < left → pos .at < pos .len) × (pos .len < 1048576) × (left ≤ pos .len) ⌝ }
-    ensures { λ r. ⌜ (r ≡ started pos left) × Onward (pos .len) r ⌝ }
+    ensures { λ r. ⌜ (r ≡ started pos left) × ((b : Bounds) → Onward b (pos .len) r) ⌝ }
 {
     if left == 0 {
         return Step::Ended;
@@ -79,7 +79,7 @@ pub fn start(pos: RingPos, left: u64) -> Step
 
 // The sector of the log that it wants.
 pub fn wanted(w: Walker) -> usize
-    requires { ⌜ Sane w ⌝ }
+    requires { ⌜ ((b : Bounds) × SaneReading b w) ⌝ }
     ensures { λ r. ⌜ (r ≡ wantedOf w) × (r < w .pos .len) ⌝ }
 {
     let stage = w.stage;
@@ -95,8 +95,8 @@ pub fn wanted(w: Walker) -> usize
 
 // Fed it.
 pub fn next(w: Walker, b: Bounds, sector: &[u8]) -> Step
-    requires { ⌜ Sane w × (length (now sector) ≡ 4096) ⌝ }
-    ensures { λ r. ⌜ (r ≡ stepOf b w (now (sector .entry))) × Onward (w .pos .len) r ⌝ }
+    requires { ⌜ SaneReading b w × (length (now sector) ≡ 4096) ⌝ }
+    ensures { λ r. ⌜ (r ≡ stepOf b w (now (sector .entry))) × Onward b (w .pos .len) r ⌝ }
 {
     let stage = w.stage;
     match stage {
@@ -117,8 +117,8 @@ pub fn next(w: Walker, b: Bounds, sector: &[u8]) -> Step
 
 // The sector was written.
 pub fn wrote(w: Walker) -> Step
-    requires { ⌜ Sane w ⌝ }
-    ensures { λ r. ⌜ (r ≡ wroteOf w) × Onward (w .pos .len) r ⌝ }
+    requires { ⌜ ((b : Bounds) × SaneWriting b w × (b .limit < 18446744073709551616)) ⌝ }
+    ensures { λ r. ⌜ (r ≡ wroteOf w) × ((b : Bounds) → SaneWriting b w → Onward b (w .pos .len) r) ⌝ }
 {
     let stage = w.stage;
     match stage {
@@ -177,7 +177,7 @@ fn opened(w: Walker, h: &[u8]) -> Walker
 // The next descriptor of the sector that names bytes, or what follows where none does.
 fn look(w: Walker, b: Bounds, sector: &[u8]) -> Step
     requires { ⌜ Opened w × (length (now sector) ≡ 4096) ⌝ }
-    ensures { λ r. ⌜ (r ≡ looked b w (now (sector .entry))) × Onward (w .pos .len) r ⌝ }
+    ensures { λ r. ⌜ r ≡ looked b w (now (sector .entry)) ⌝ }
 {
     let from = (64 + 32 * w.index) % 4096;
     let m = vhdx_pieces_entry::least(w.count - w.index, (4096 - from) / 32);
@@ -223,7 +223,7 @@ fn past(w: Walker, i: usize) -> Walker
 }
 
 // Whole sectors that lie neither in the first MiB nor in the log, and end within the final length.
-fn is_allowed(b: Bounds, offset: u64, n: u64) -> bool
+pub fn is_allowed(b: Bounds, offset: u64, n: u64) -> bool
     ensures { λ r. ⌜ r ≡ allowed b offset n ⌝ }
 {
     let log = b.log;
@@ -236,7 +236,7 @@ fn is_allowed(b: Bounds, offset: u64, n: u64) -> bool
 // At the next descriptor, which names bytes.
 fn meet(w: Walker, b: Bounds, d: &[u8]) -> Step
     requires { ⌜ Opened w × (w .index < w .count) × (length (now d) ≡ 32) ⌝ }
-    ensures { λ r. ⌜ (r ≡ met b w (now (d .entry))) × Onward (w .pos .len) r ⌝ }
+    ensures { λ r. ⌜ r ≡ met b w (now (d .entry)) ⌝ }
 {
     let offset = descriptor::file_offset(d);
     let n = bytes::run_length(d);
@@ -284,7 +284,7 @@ fn beyond(w: Walker, data: usize, stage: Stage) -> Walker
 // The next descriptor, the next entry, or the end.
 fn resume(w: Walker) -> Step
     requires { ⌜ Opened w ⌝ }
-    ensures { λ r. ⌜ (r ≡ resumed w) × Onward (w .pos .len) r ⌝ }
+    ensures { λ r. ⌜ r ≡ resumed w ⌝ }
 {
     let pos = w.pos;
     if w.index < w.count {

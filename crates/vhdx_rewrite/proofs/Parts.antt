@@ -1,4 +1,4 @@
--- Fields of a list in which some bytes were put, numbers as bytes and back, and the size of a checksum.
+-- Fields of a list in which some bytes were put, and the size of a checksum.
 -- Assumes nothing.
 use mathlib.Core.Path.{_≡_, refl, sym, ap, ap₂, _∙_}
 use mathlib.Core.Bool.{Bool, _&&_}
@@ -11,34 +11,12 @@ use lib.Bits.{bitXor, xor-lt}
 use lib.Dec.{eqb, lit<}
 use lib.ListN.{length, take, drop, getD, replicate, length-append}
 use lib.Seq.{getD-take, getD-drop, ext-getD, take-append-le, take-at, drop-at, length-take-le}
-use Rattle.field.specs.Fields.{le, field, starts}
+use Rattle.field.specs.Fields.{le, Bytes, field, starts}
+use Rattle.field.proofs.Bytes.{bytes-append, bytes-take, bytes-drop, bytes-zeros}
 use Rattle.crc32c.specs.Crc.{poly, ones, bit, bits, byte, updates, crc, zeroed}
 use Rattle.vhdx_replay.specs.Buffer.{put}
 use Rattle.vhdx_replay.proofs.Bytes.{part-long, put-length, put-in, put-out}
 use Rattle.vhdx_replay.proofs.Reading.{same-part}
-use Rattle.vhdx_rewrite.specs.Rewrite.{leBytes, Bytes}
-
--- ---- a number as bytes
-
-pub le-bytes-long : (n x : ℕ) → length (leBytes n x) ≡ n
-unfolding leBytes
-le-bytes-long zero x = refl
-le-bytes-long (suc n) x = ap suc (le-bytes-long n (x / 256))
-
-pub le-of-bytes : (n x : ℕ) → x < 256 ^ n → le (leBytes n x) ≡ x
-unfolding leBytes le
-le-of-bytes zero x h = omega (arith, h)
-le-of-bytes (suc n) x h =
-    let e = div-add-mod' x 256 in
-    let p : 256 ^ suc n ≡ 256 ^ n * 256 = pow-suc 256 n in
-    let r : x % 256 < 256 = mod-lt x (lit< tt) in
-    let b : x / 256 < 256 ^ n = omega arith in
-    ap (λ (y : ℕ). x % 256 + 256 * y) (le-of-bytes n (x / 256) b) ∙ omega arith
-
-pub le-zeros : (n : ℕ) → le (replicate n 0) ≡ 0
-unfolding le
-le-zeros zero = refl
-le-zeros (suc n) = ap (λ (x : ℕ). 0 + 256 * x) (le-zeros n)
 
 -- ---- a part of a list in which bytes were put
 
@@ -111,29 +89,6 @@ unfolding crc
 crc-lt bs p = xor-lt 32 (updates ones bs) ones (updates-lt ones bs (omega arith) p) (omega arith)
 
 -- ---- bytes
-
-pub bytes-append : (a b : List ℕ) → Bytes a → Bytes b → Bytes (a ++ b)
-bytes-append [] b p q = q
-bytes-append (x ∷ a) b p q = (p .0, bytes-append a b (p .1) q)
-
-pub bytes-take : (n : ℕ) (a : List ℕ) → Bytes a → Bytes (take n a)
-bytes-take zero a p = tt
-bytes-take (suc n) [] p = tt
-bytes-take (suc n) (x ∷ a) p = (p .0, bytes-take n a (p .1))
-
-pub bytes-drop : (n : ℕ) (a : List ℕ) → Bytes a → Bytes (drop n a)
-bytes-drop zero a p = p
-bytes-drop (suc n) [] p = tt
-bytes-drop (suc n) (x ∷ a) p = bytes-drop n a (p .1)
-
-pub bytes-zeros : (n : ℕ) → Bytes (replicate n 0)
-bytes-zeros zero = tt
-bytes-zeros (suc n) = (omega arith, bytes-zeros n)
-
-pub bytes-number : (n x : ℕ) → Bytes (leBytes n x)
-unfolding leBytes
-bytes-number zero x = tt
-bytes-number (suc n) x = (mod-lt x (lit< tt), bytes-number n (x / 256))
 
 pub bytes-put : (r : List ℕ) (at : ℕ) (d : List ℕ) → Bytes r → Bytes d → Bytes (put r at d)
 unfolding put

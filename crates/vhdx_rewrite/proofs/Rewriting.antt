@@ -10,15 +10,16 @@ use lib.Dec.{eqb, leb}
 use lib.ListN.{length, take, replicate, length-replicate, drop-of-length-le}
 use borrow.Author.Tests.{eq-eqb}
 use Rattle.field.specs.declared.Guid.{Guid}
-use Rattle.field.specs.Fields.{field, number, starts}
+use Rattle.field.specs.Fields.{leBytes, Bytes, field, number, starts}
+use Rattle.field.proofs.Bytes.{le-bytes-long, le-of-bytes, le-zeros, bytes-zeros, bytes-number}
 use Rattle.field.proofs.Laws.{field-add}
 use Rattle.extent.specs.Extent.{MiB, wholeMiB}
 use Rattle.crc32c.specs.Crc.{crc, zeroed}
 use Rattle.vhdx_header.specs.Header.{checksum, sequenceNumber, logGuid, logVersion, logLength, logOffset, head, validHeader, versionRule, logVersionRule, logLimit, fieldRules}
 use Rattle.vhdx_replay.specs.Buffer.{put}
 use Rattle.vhdx_replay.proofs.Bytes.{put-length}
-use Rattle.vhdx_rewrite.specs.Rewrite.{checksumAt, numberAt, fileWriteAt, logAt, leBytes, nextNumber, numbered, named, rewritten, newChecksum, closedHeader, Bytes}
-use Rattle.vhdx_rewrite.proofs.Parts.{le-bytes-long, le-of-bytes, le-zeros, part-out, field-out, field-in, starts-same, zeroed-put, crc-lt, bytes-zeros, bytes-number, bytes-put, bytes-zeroed}
+use Rattle.vhdx_rewrite.specs.Rewrite.{checksumAt, numberAt, fileWriteAt, logAt, nextNumber, numbered, named, rewritten, newChecksum, closedHeader}
+use Rattle.vhdx_rewrite.proofs.Parts.{part-out, field-out, field-in, starts-same, zeroed-put, crc-lt, bytes-put, bytes-zeroed}
 
 -- the rules of the log's place, by its offset and length
 abbrev placeRules : ℕ → ℕ → Bool

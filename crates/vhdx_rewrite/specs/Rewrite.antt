@@ -2,9 +2,10 @@
 -- identifier zero and a file-write identifier that the caller lends, all else copied. The checksum is made anew.").
 -- A header h is the list of its 4,096 bytes, an identifier the list of its 16.
 -- Assumes nothing.
-use mathlib.Core.List.{List, [], _∷_}
-use Prim.Native.Nat.{ℕ, zero, suc, _+_, _/_, _%_, _<_}
+use mathlib.Core.List.{List}
+use Prim.Native.Nat.{ℕ, _+_}
 use lib.ListN.{replicate}
+use Rattle.field.specs.Fields.{leBytes}
 use Rattle.crc32c.specs.Crc.{crc, zeroed}
 use Rattle.vhdx_header.specs.Header.{sequenceNumber}
 use Rattle.vhdx_replay.specs.Buffer.{put}
@@ -12,11 +13,6 @@ use Rattle.vhdx_replay.specs.Buffer.{put}
 -- a sequence number's "greatest value", 2^64 - 1: the one that has no next
 abbrev pub greatest : ℕ
 greatest = 18446744073709551615
-
--- a number as n bytes, lowest first: what `le` of the crate field reads back
-unfoldable pub leBytes : ℕ → ℕ → List ℕ
-leBytes zero x = []
-leBytes (suc n) x = x % 256 ∷ leBytes n (x / 256)
 
 -- where a header has these fields (MS-VHDX 2.2.2)
 abbrev pub checksumAt : ℕ
@@ -52,8 +48,3 @@ newChecksum h = crc (zeroed h checksumAt)
 
 unfoldable pub closedHeader : List ℕ → List ℕ → List ℕ
 closedHeader h identifier = put (rewritten h identifier) checksumAt (leBytes 4 (newChecksum (rewritten h identifier)))
-
--- a list of bytes
-abbrev pub Bytes : List ℕ → Type 0
-Bytes [] = Unit {0}
-Bytes (b ∷ bs) = (b < 256) × Bytes bs

@@ -1,7 +1,5 @@
 // The header that closing a log writes, and its write (change request Q-6).
-// Its module: `number`, a number as bytes.
-mod number;
-
+use field::number;
 use vhdx_replay::store;
 ghost use mathlib.Core.Path.{_≡_};
 ghost use Prim.Native.Nat.{_+_, _<_};

@@ -6,7 +6,7 @@ use native.Mathlib.Omega.{arith}
 use Rattle.extent.specs.declared.Extent.{Extent}
 use Rattle.vhdx_pieces_plan.specs.Planning.{sectorIn}
 use Rattle.vhdx_pieces.specs.declared.Machine.{Machine}
-use Rattle.vhdx_pieces.specs.Machines.{wantedOf, Sane}
+use Rattle.vhdx_pieces.specs.Machines.{boundsOf, wantedOf, Sane}
 use borrow.Author.Needs.{needs}
 use Rattle.vhdx_pieces.proofs.wanted.Statement.{statement}
 use Rattle.vhdx_pieces.proofs.wanted.Tie as tie
@@ -15,7 +15,7 @@ wanted-requires : tie.Need-wanted-requires
 wanted-requires c κs = subst Sane (c .before .m .given .1) (c .before .before .before .pre)
 
 wanted-requires-2 : tie.Need-wanted-requires-2
-wanted-requires-2 c κs = subst Sane (c .before .before .before .before .m2 .given .1) (c .before .before .before .before .before .before .pre) .1
+wanted-requires-2 c κs = (boundsOf (c .before .before .before .before .m2 .given .0 .0 .order), subst Sane (c .before .before .before .before .m2 .given .1) (c .before .before .before .before .before .before .pre) .1)
 
 sector-at-requires : tie.Need-sector-at-requires
 sector-at-requires c κs =

@@ -1,6 +1,6 @@
 -- `vhdx_pieces_plan::seek` meets its contract.
 -- Assumes nothing.
-use mathlib.Core.Path.{_≡_, refl, sym, ap, ap₂, _∙_, subst}
+use mathlib.Core.Path.{_≡_, sym, ap, _∙_}
 use mathlib.Core.Bool.{Bool, true, false, _&&_, and-eq-true-iff}
 use Prim.Native.Nat.{ℕ, _<_}
 use native.Mathlib.Omega.{arith}
@@ -36,29 +36,26 @@ module _ (x : Context) (q : Sequence) (n : ℕ) (e : n ≡ sectorsOf (x .log)) w
 start-requires : tie.Need-start-requires
 start-requires c κs =
     let b = both (c .before .before .before .before .before .before .found .given .0 .0) (c .before .before .before .sectors .result) (c .if1 .taken) in
-    (b .0, omega (arith, c .before .before .before .sectors .ensures, c .before .before .before .before .before .before .before .before .pre .short), b .1)
+    (b .0, omega (arith, c .before .before .before .sectors .ensures, c .before .before .before .before .before .before .before .before .pre), b .1)
 
 survey-turn-requires : tie.Need-survey-turn-requires
 survey-turn-requires c κs =
     let b = both (c .before .before .before .before .before .before .before .found .given .0 .0) (c .before .before .before .before .sectors .result) (c .before .if1 .taken) in
-    let n = c .before .before .before .before .sectors .ensures in
-    (c .before .before .before .before .before .before .before .before .before .pre, subst (λ (m : ℕ). touring.Onward m (c .start .result)) n (c .start .ensures .1), omega (arith, b, n), omega (arith, b, n))
+    omega (arith, b, c .before .before .before .before .sectors .ensures)
 
 returns : tie.Need-returns
-returns c = (sym (ap (sought (c .before .before .args .context)) (c .enum-told .given .1)), tt)
+returns c = sym (ap (sought (c .before .before .args .context)) (c .enum-told .given .1))
 
 returns-2 : tie.Need-returns-2
 returns-2 c =
-    let a = c .before .before .before .before .before .before .before .before .before .before .args in (
-      c .survey-turn .ensures .0 ∙ taken (a .context) (c .before .before .before .before .before .before .before .before .found .given .0 .0) (c .before .before .before .before .before .sectors .result) (c .before .before .before .before .before .sectors .ensures) (c .before .before .if1 .taken) (c .before .start .ensures .0)
-          ∙ sym (ap (sought (a .context)) (c .before .before .before .before .before .before .before .before .found .given .1)),
-      c .survey-turn .ensures .1,
-    )
+    let a = c .before .before .before .before .before .before .before .before .before .before .args in
+    c .survey-turn .ensures ∙ taken (a .context) (c .before .before .before .before .before .before .before .before .found .given .0 .0) (c .before .before .before .before .before .sectors .result) (c .before .before .before .before .before .sectors .ensures) (c .before .before .if1 .taken) (c .before .start .ensures .0)
+    ∙ sym (ap (sought (a .context)) (c .before .before .before .before .before .before .before .before .found .given .1))
 
 returns-3 : tie.Need-returns-3
 returns-3 c =
     let a = c .before .before .before .before .before .before .before .before .args in
-    (left (a .context) (c .before .before .before .before .before .before .found .given .0 .0) (c .before .before .before .sectors .result) (c .before .before .before .sectors .ensures) (c .if1 .left) ∙ sym (ap (sought (a .context)) (c .before .before .before .before .before .before .found .given .1)), tt)
+    left (a .context) (c .before .before .before .before .before .before .found .given .0 .0) (c .before .before .before .sectors .result) (c .before .before .before .sectors .ensures) (c .if1 .left) ∙ sym (ap (sought (a .context)) (c .before .before .before .before .before .before .found .given .1))
 
 pub seek-spec : {M : Type 1} → statement M
 seek-spec =

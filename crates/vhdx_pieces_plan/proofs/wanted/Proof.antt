@@ -1,10 +1,9 @@
 -- `vhdx_pieces_plan::wanted` meets its contract.
 -- Assumes nothing.
-use mathlib.Core.Path.{_≡_, refl, sym, ap, ap₂, _∙_, subst}
-use Prim.Native.Nat.{ℕ, _+_, _≤_}
+use mathlib.Core.Path.{_≡_, sym, ap, _∙_, subst}
+use Prim.Native.Nat.{ℕ}
 use native.Mathlib.Omega.{arith}
 use Rattle.extent.specs.declared.Extent.{Extent}
-use Rattle.vhdx_pieces_plan.specs.declared.Phase.{Phase}
 use Rattle.vhdx_pieces_plan.specs.Planning.{sectorIn, wantedIn, SaneIn}
 use Rattle.vhdx_pieces_plan.proofs.Turns.{size-small}
 use borrow.Author.Needs.{needs}
@@ -36,7 +35,7 @@ returns : tie.Need-returns
 returns c =
     let p = c .before .before .before .before .before .before .before .args .p in
     let s = subst (SaneIn (p .context)) (c .before .before .before .phase .given .1) (c .before .before .before .before .before .before .before .pre) in
-    (extent-path (c .before .offset .ensures .0) (c .size .ensures) ∙ sym (ap (wantedIn (p .context .log)) (c .before .before .before .phase .given .1)), omega (arith, c .before .offset .ensures .1, c .size .ensures, s), omega (arith, size-small (c .before .before .before .phase .given .0 .0), c .size .ensures))
+    (extent-path (c .before .offset .ensures .0) (c .size .ensures) ∙ sym (ap (wantedIn (p .context .log)) (c .before .before .before .phase .given .1)), omega (arith, c .before .offset .ensures .1, c .size .ensures, s .0), omega (arith, size-small (c .before .before .before .phase .given .0 .0), c .size .ensures))
 
 returns-2 : tie.Need-returns-2
 returns-2 c =

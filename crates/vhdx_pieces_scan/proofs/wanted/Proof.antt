@@ -1,8 +1,7 @@
 -- `vhdx_pieces_scan::wanted` meets its contract.
 -- Assumes nothing.
-use mathlib.Core.Path.{_≡_, sym, ap, _∙_, subst}
+use mathlib.Core.Path.{sym, ap, _∙_, subst}
 use native.Mathlib.Omega.{arith}
-use Rattle.vhdx_pieces_scan.specs.declared.Stage.{Stage}
 use Rattle.vhdx_pieces_scan.specs.Scanning.{Staged, wantedIn}
 use Rattle.vhdx_pieces_scan.proofs.Turns.{on-ring}
 use Rattle.vhdx_entry.specs.declared.ring.RingPos.{RingPos}

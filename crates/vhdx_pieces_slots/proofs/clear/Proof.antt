@@ -2,7 +2,6 @@
 -- Assumes nothing.
 use mathlib.Core.Path.{refl}
 use Rattle.vhdx_pieces_slots.specs.Slots.{zeros}
-use borrow.Author.Needs.{needs}
 use Rattle.vhdx_pieces_slots.proofs.clear.Statement.{statement}
 use Rattle.vhdx_pieces_slots.proofs.clear.Tie as tie
 

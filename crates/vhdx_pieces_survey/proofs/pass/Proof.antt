@@ -1,8 +1,6 @@
 -- `vhdx_pieces_survey::pass` meets its contract.
 -- Assumes nothing.
-use mathlib.Core.Path.{_≡_, refl, sym, ap, ap₂, _∙_, subst}
-use mathlib.Core.List.{List}
-use Prim.Native.Nat.{ℕ, _+_, _*_, _≤_}
+use mathlib.Core.Path.{ap₂, _∙_}
 use native.Mathlib.Omega.{arith}
 use Rattle.vhdx_pieces_survey.specs.Touring.{surveyIn, movedOn, passed}
 use Rattle.vhdx_pieces_survey.proofs.Turns.{fits-here}
@@ -20,7 +18,7 @@ unfolding passed
 returns c =
     let a = c .before .before .before .before .before .before .before .args in
     let t = a .t in
-    (c .moved .ensures .0 ∙ ap₂ (movedOn t) (c .before .before .before .before .here .ensures) (c .before .survey-in .ensures ∙ ap₂ (surveyIn (a .log) (t .found) (a .sector .now)) (c .before .before .before .from .ensures) (c .before .before .before .before .here .ensures)), c .moved .ensures .1)
+    c .moved .ensures ∙ ap₂ (movedOn t) (c .before .before .before .before .here .ensures) (c .before .survey-in .ensures ∙ ap₂ (surveyIn (a .log) (t .found) (a .sector .now)) (c .before .before .before .from .ensures) (c .before .before .before .before .here .ensures))
 
 pub pass-spec : {M : Type 1} → statement M
 pass-spec =

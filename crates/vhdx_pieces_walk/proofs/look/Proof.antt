@@ -53,12 +53,12 @@ resume-requires c κs =
 returns : tie.Need-returns
 returns c =
     let a = c .before .before .before .before .before .before .before .before .before .args in
-    looked-met (a .b) (a .w) (a .sector .now) (c .before .before .before .before .before .least .ensures) (c .before .before .before .before .idle .ensures .0) (omega (arith, c .before .before .before .if1 .taken)) (c .before .before .past .result) (c .before .before .past .ensures) (c .before .at .ensures .0) (c .meet .ensures)
+    c .meet .ensures ∙ looked-met (a .b) (a .w) (a .sector .now) (c .before .before .before .before .before .least .ensures) (c .before .before .before .before .idle .ensures .0) (omega (arith, c .before .before .before .if1 .taken)) (c .before .before .past .ensures) (c .before .at .ensures .0)
 
 returns-2 : tie.Need-returns-2
 returns-2 c =
     let a = c .before .before .before .before .before .before .before .before .args in
-    looked-past (a .b) (a .w) (a .sector .now) (c .before .before .before .before .least .ensures) (c .before .before .before .idle .ensures .0) (omega (arith, c .before .before .if1 .left)) (c .before .past2 .result) (c .before .past2 .ensures) (c .resume .ensures)
+    c .resume .ensures ∙ looked-past (a .b) (a .w) (a .sector .now) (c .before .before .before .before .least .ensures) (c .before .before .before .idle .ensures .0) (omega (arith, c .before .before .if1 .left)) (c .before .past2 .ensures)
 
 pub look-spec : {M : Type 1} → statement M
 look-spec =

@@ -12,8 +12,8 @@ use Rattle.vhdx_pieces_walk.specs.declared.Step.{Step}
 use Rattle.vhdx_pieces_walk.specs.declared.Step.the-variants.{Read, Write}
 use Rattle.vhdx_pieces_walk.specs.declared.Stage.the-variants as stage
 use Rattle.vhdx_pieces_walk.specs.declared.Walker.{Walker}
-use Rattle.vhdx_pieces_walk.specs.Walking.{allowed, beyondBy, Sane}
-use Rattle.vhdx_pieces_walk.proofs.Turns.{opened-beyond, met-nothing, met-zeros, met-data, met-short, ends-small}
+use Rattle.vhdx_pieces_walk.specs.Walking.{allowed}
+use Rattle.vhdx_pieces_walk.proofs.Turns.{met-nothing, met-zeros, met-data, met-short}
 use borrow.Author.Needs.{needs}
 use Rattle.vhdx_pieces_walk.proofs.meet.Statement.{statement}
 use Rattle.vhdx_pieces_walk.proofs.meet.Tie as tie
@@ -25,30 +25,26 @@ returns : tie.Need-returns
 returns c =
     let a = c .before .before .before .before .before .before .before .before .before .before .before .before .before .before .before .args in
     let ok = ap₂ (λ (x y : ℕ). allowed (a .b) x y) (sym (c .before .before .before .before .before .before .before .before .before .before .before .before .before .file-offset .ensures)) (sym (c .before .before .before .before .before .before .before .before .before .before .before .before .run-length .ensures)) ∙ sym (c .before .before .before .before .before .before .before .before .before .before .before .is-allowed .ensures) ∙ c .before .before .before .before .before .before .before .before .before .before .if1 .taken in
-    let short : descriptorSectors (a .w .count) + a .w .«data» < a .w .size = omega (arith, c .before .before .before .before .before .before .before .sectors .ensures, c .before .before .before .before .if3 .taken) in (
-      simp (c .beyond .ensures, c .before .u32-at .ensures, c .before .before .u64-at .ensures, c .before .before .before .before .before .before .before .before .before .before .before .before .before .file-offset .ensures) (met-data (a .b) (a .w) (a .d .now) ok (sym (c .before .before .before .before .before .before .before .before .before .is-data .ensures) ∙ c .before .before .before .before .before .before .before .before .if2 .taken) (lt-ltb _ _ short)),
-      (subst Sane (sym (c .beyond .ensures)) (opened-beyond (a .w) _ _ (c .before .before .before .before .before .before .before .before .before .before .before .before .before .before .before .pre .0) (c .before .before .before .before .before .before .before .before .before .before .before .before .before .before .before .pre .1) (omega (arith, c .before .before .before .before .before .before .before .before .before .before .before .before .before .before .before .pre .0 .rank)), short), ap (λ (x : Walker). x .pos .len) (c .beyond .ensures)),
-    )
+    let short : descriptorSectors (a .w .count) + a .w .«data» < a .w .size = omega (arith, c .before .before .before .before .before .before .before .sectors .ensures, c .before .before .before .before .if3 .taken) in
+    simp (c .beyond .ensures, c .before .u32-at .ensures, c .before .before .u64-at .ensures, c .before .before .before .before .before .before .before .before .before .before .before .before .before .file-offset .ensures) (met-data (a .b) (a .w) (a .d .now) ok (sym (c .before .before .before .before .before .before .before .before .before .is-data .ensures) ∙ c .before .before .before .before .before .before .before .before .if2 .taken) (lt-ltb _ _ short))
 
 returns-2 : tie.Need-returns-2
 returns-2 c =
     let a = c .before .before .before .before .before .before .before .before .before .before .before .args in
     let ok = ap₂ (λ (x y : ℕ). allowed (a .b) x y) (sym (c .before .before .before .before .before .before .before .before .before .file-offset .ensures)) (sym (c .before .before .before .before .before .before .before .before .run-length .ensures)) ∙ sym (c .before .before .before .before .before .before .before .is-allowed .ensures) ∙ c .before .before .before .before .before .before .if1 .taken in
-    (met-short (a .b) (a .w) (a .d .now) ok (sym (c .before .before .before .before .before .is-data .ensures) ∙ c .before .before .before .before .if2 .taken) (le-ltb (descriptorSectors (a .w .count) + a .w .«data») (a .w .size) (omega (arith, c .before .before .before .sectors .ensures, c .if3 .left))), tt)
+    met-short (a .b) (a .w) (a .d .now) ok (sym (c .before .before .before .before .before .is-data .ensures) ∙ c .before .before .before .before .if2 .taken) (le-ltb (descriptorSectors (a .w .count) + a .w .«data») (a .w .size) (omega (arith, c .before .before .before .sectors .ensures, c .if3 .left)))
 
 returns-3 : tie.Need-returns-3
 returns-3 c =
     let a = c .before .before .before .before .before .before .before .before .args in
-    let ok = ap₂ (λ (x y : ℕ). allowed (a .b) x y) (sym (c .before .before .before .before .before .before .file-offset .ensures)) (sym (c .before .before .before .before .before .run-length .ensures)) ∙ sym (c .before .before .before .before .is-allowed .ensures) ∙ c .before .before .before .if1 .taken in (
-      simp (c .beyond2 .ensures, c .before .before .before .before .before .before .file-offset .ensures, c .before .before .before .before .before .run-length .ensures) (met-zeros (a .b) (a .w) (a .d .now) ok (sym (c .before .before .is-data .ensures) ∙ c .before .if2 .left)),
-      (subst Sane (sym (c .beyond2 .ensures)) (opened-beyond (a .w) _ _ (c .before .before .before .before .before .before .before .before .pre .0) (c .before .before .before .before .before .before .before .before .pre .1) (omega (arith, c .before .before .before .before .before .before .before .before .pre .0 .rank)), omega (arith, ends-small (a .b) _ _ ok (omega arith), c .before .before .before .before .before .before .file-offset .ensures, c .before .before .before .before .before .run-length .ensures)), ap (λ (x : Walker). x .pos .len) (c .beyond2 .ensures)),
-    )
+    let ok = ap₂ (λ (x y : ℕ). allowed (a .b) x y) (sym (c .before .before .before .before .before .before .file-offset .ensures)) (sym (c .before .before .before .before .before .run-length .ensures)) ∙ sym (c .before .before .before .before .is-allowed .ensures) ∙ c .before .before .before .if1 .taken in
+    simp (c .beyond2 .ensures, c .before .before .before .before .before .before .file-offset .ensures, c .before .before .before .before .before .run-length .ensures) (met-zeros (a .b) (a .w) (a .d .now) ok (sym (c .before .before .is-data .ensures) ∙ c .before .if2 .left))
 
 returns-4 : tie.Need-returns-4
 returns-4 c =
     let a = c .before .before .before .before .before .args in
     let no = ap₂ (λ (x y : ℕ). allowed (a .b) x y) (sym (c .before .before .before .file-offset .ensures)) (sym (c .before .before .run-length .ensures)) ∙ sym (c .before .is-allowed .ensures) ∙ c .if1 .left in
-    (met-nothing (a .b) (a .w) (a .d .now) no, tt)
+    met-nothing (a .b) (a .w) (a .d .now) no
 
 pub meet-spec : {M : Type 1} → statement M
 meet-spec =

@@ -7,7 +7,7 @@ use Rattle.vhdx_pieces_slots.proofs.reading.doing.Tie as tie
 
 returns : tie.Need-returns
 unfolding doingFrom
-returns c = rw (c .walker .ensures, c .before .order .ensures)
+returns c = rw (c .before .walker .ensures, c .before .before .order .ensures)
 
 pub doing-spec : {M : Type 1} → statement M
 doing-spec =
@@ -15,4 +15,5 @@ doing-spec =
     (tie.spec
     (λ c κs. search needs)
     (λ c κs. search needs)
+    (λ c. search needs)
     returns)

@@ -1,9 +1,9 @@
--- `vhdx_rewrite::number::bytes4` meets its contract.
+-- `field::number::bytes4` meets its contract.
 -- Assumes nothing.
-use Rattle.vhdx_rewrite.specs.Rewrite.{leBytes}
+use Rattle.field.specs.Fields.{leBytes}
 use borrow.Author.Needs.{needs}
-use Rattle.vhdx_rewrite.proofs.number.bytes4.Statement.{statement}
-use Rattle.vhdx_rewrite.proofs.number.bytes4.Tie as tie
+use Rattle.field.proofs.number.bytes4.Statement.{statement}
+use Rattle.field.proofs.number.bytes4.Tie as tie
 
 returns : tie.Need-returns
 unfolding leBytes

@@ -1,7 +1,7 @@
 // A number as bytes, lowest first.
 ghost use mathlib.Core.Path.{_≡_};
 ghost use Prim.Native.Nat.{_%_};
-ghost use Rattle.vhdx_rewrite.specs.Rewrite.{leBytes};
+ghost use Rattle.field.specs.Fields.{leBytes};
 
 fn lowest(x: u64) -> u8
     ensures { λ r. ⌜ r ≡ x % 256 ⌝ }
