@@ -27,7 +27,7 @@ written i (x ∷ xs) slots (suc k) h b =
     ap (λ (j : ℕ). getD (inSlots (i + 1) xs (set slots i x)) j 0) {x = i + suc k} {y = i + 1 + k} (omega arith)
     ∙ written (i + 1) xs (set slots i x) k (simp length-set (omega arith)) (omega arith)
 
-bit-read : (b : Bool) → not (eqb (bit b) 0) ≡ b
+pub bit-read : (b : Bool) → not (eqb (bit b) 0) ≡ b
 bit-read true = refl
 bit-read false = refl
 

@@ -4,7 +4,7 @@ use vhdx_facts::Facts;
 ghost use mathlib.Core.Path.{_≡_};
 ghost use Rattle.vhdx_slots.specs.Slots.{bit, factsIn, factsFrom};
 
-fn bit_of(b: bool) -> u64
+pub fn bit_of(b: bool) -> u64
     ensures { λ r. ⌜ r ≡ bit b ⌝ }
 {
     if b { 1 } else { 0 }

@@ -1,0 +1,4 @@
+pub mod Restored
+pub mod Deciding
+pub mod Decided
+pub mod Loads
