@@ -1,8 +1,10 @@
 -- Answers in arrays, as the exported functions give them. Every slot that the interface names is written.
 -- Assumes nothing.
+use mathlib.Core.Bool.{cond}
 use mathlib.Core.List.{List, [], _∷_, _++_}
 use mathlib.Core.Path.{_≡_}
 use Prim.Native.Nat.{ℕ}
+use lib.Dec.{eqb}
 use lib.ListN.{length, replicate}
 use Rattle.decision.specs.Refusal.{Outcome}
 use Rattle.extent.specs.declared.Extent.{Extent}
@@ -10,6 +12,7 @@ use Rattle.vhdx_close.specs.declared.Closed.{Closed}
 use Rattle.vhdx_map.specs.Lookup.{Location, figures}
 use Rattle.vhdx.specs.declared.Attached.{Attached}
 use Rattle.vhdx.specs.declared.Planned.{Planned}
+use Rattle.vhdx_pieces_calls.specs.declared.Request.{Request}
 use Rattle.vhdx_replay.specs.declared.Stepped.{Stepped}
 use Rattle.vhdx_slots.specs.Slots.{inSlots, numbers, factsFrom}
 
@@ -36,6 +39,14 @@ steppedIn a answer = inSlots 0 (a .refusal ∷ a .length ∷ []) answer
 -- all 3 slots: refusal, length, count
 abbrev pub closedIn : Closed → List ℕ → List ℕ
 closedIn a answer = inSlots 0 (a .refusal ∷ a .length ∷ a .count ∷ []) answer
+
+-- all 4 slots: the kind of request, and its two numbers, zero
+abbrev pub requestIn : Request → List ℕ → List ℕ
+requestIn r answer = inSlots 0 (r .kind ∷ r .first ∷ r .second ∷ 0 ∷ []) answer
+
+-- the number of a request that is a refusal, else 0
+abbrev pub refusedBy : Request → ℕ
+refusedBy r = cond (eqb (r .kind) 0) (r .first) 0
 
 -- both slots: the kind of answer, and its number
 abbrev pub figuresIn : Outcome Location → List ℕ → List ℕ

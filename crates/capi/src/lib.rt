@@ -1,16 +1,20 @@
 // What C and Rust link: the calls over numbers and arrays. Each takes its arrays apart and makes the proved call.
 use vhdx_map::Answer;
+use vhdx_pieces_calls::Request;
 ghost use mathlib.Core.Path.{_≡_};
 ghost use Rattle.decision.specs.Refusal.{refusalOf};
 ghost use Rattle.vhdx_close.specs.Close.{afterClose, closeAnswer, afterCloseStep, closeStepAnswer};
 ghost use Rattle.vhdx_map.specs.Lookup.{lookup};
 ghost use Rattle.vhdx_parent.specs.Key.{keyExtent};
+ghost use Rattle.vhdx_pieces.specs.Machines.{started};
+ghost use Rattle.vhdx_pieces_calls.specs.Calls.{requestOf, numbersOf, nextRequest, nextNumbers, nextPiece};
+ghost use Rattle.vhdx_pieces_slots.specs.Loading.{loaded};
 ghost use Rattle.vhdx_replay.specs.Calls.{file};
 ghost use Rattle.vhdx.specs.Attach.{afterAttach, attachAnswer};
 ghost use Rattle.vhdx.specs.Plan.{planAnswer};
 ghost use Rattle.vhdx.specs.Step.{afterStep, stepAnswer};
 ghost use Rattle.vhdx_slots.specs.Slots.{factsFrom};
-ghost use Rattle.capi.specs.Answers.{restCleared, attachedIn, plannedIn, steppedIn, closedIn, figuresIn, extentIn};
+ghost use Rattle.capi.specs.Answers.{restCleared, attachedIn, plannedIn, steppedIn, closedIn, requestIn, refusedBy, figuresIn, extentIn};
 
 // Slots 16 to 31, which have no meaning yet.
 fn clear_rest(answer: &mut [u64; 32])
@@ -112,6 +116,51 @@ pub extern "C" fn shrunvaki_vhdx_close_step(
     answer[0] = done.refusal;
     answer[1] = done.length;
     done.refusal
+}
+
+// The request's kind and its two numbers, zero.
+fn put_request(request: Request, answer: &mut [u64; 4]) -> u64
+    ensures { λ r. ⌜ r ≡ refusedBy request ⌝ }
+    ensures { λ r. ⌜ now (answer .exit) ≡ requestIn request (now (answer .entry)) ⌝ }
+{
+    answer[0] = request.kind;
+    answer[1] = request.first;
+    answer[2] = request.second;
+    answer[3] = 0;
+    if request.kind == 0 { request.first } else { 0 }
+}
+
+// The refusal's number or 0. The answer: what is asked for (0 refused, 1 read, 2 grow, 3 write, 4 done) and its two numbers, zero.
+#[no_mangle]
+pub extern "C" fn shrunvaki_vhdx_pieces_start(
+    length: u64,
+    capacity: u64,
+    machine: &mut [u64; 64],
+    answer: &mut [u64; 4],
+) -> u64
+    ensures { λ r. ⌜ r ≡ refusedBy (requestOf (started length capacity)) ⌝ }
+    ensures { λ r. ⌜ now (machine .exit) ≡ numbersOf (started length capacity) ⌝ }
+    ensures { λ r. ⌜ now (answer .exit) ≡ requestIn (requestOf (started length capacity)) (now (answer .entry)) ⌝ }
+{
+    put_request(
+        vhdx_pieces_calls::start(length, capacity, machine),
+        answer,
+    )
+}
+
+// The same, after what was asked for is done; 5 where no machine has these numbers.
+#[no_mangle]
+pub extern "C" fn shrunvaki_vhdx_pieces_next(
+    machine: &mut [u64; 64],
+    piece: &mut [u8; 65536],
+    answer: &mut [u64; 4],
+) -> u64
+    ensures { λ r. ⌜ r ≡ refusedBy (nextRequest (loaded (now (machine .entry))) (now (piece .entry))) ⌝ }
+    ensures { λ r. ⌜ now (machine .exit) ≡ nextNumbers (loaded (now (machine .entry))) (now (machine .entry)) (now (piece .entry)) ⌝ }
+    ensures { λ r. ⌜ now (piece .exit) ≡ nextPiece (loaded (now (machine .entry))) (now (piece .entry)) ⌝ }
+    ensures { λ r. ⌜ now (answer .exit) ≡ requestIn (nextRequest (loaded (now (machine .entry))) (now (piece .entry))) (now (answer .entry)) ⌝ }
+{
+    put_request(vhdx_pieces_calls::next(machine, piece), answer)
 }
 
 // The refusal's number or 0. The answer: 0 refused, 1 in the file, 2 zero, 3 in the parent; the number, the offset in the
