@@ -1,4 +1,2 @@
 pub mod Restored
-pub mod Deciding
-pub mod Decided
 pub mod Loads

@@ -27,13 +27,10 @@ use Rattle.vhdx_pieces.specs.declared.Machine.the-variants.{Planning, Growing, 
 use Rattle.vhdx_slots.specs.Slots.{inSlots}
 use Rattle.vhdx_pieces_slots.specs.declared.Loaded.the-variants.{Known, Unknown}
 use Rattle.vhdx_pieces_slots.specs.Slots.{zeros, contextIn, headerIn, bestIn, stageIn, scannerIn, tourIn, surveyingIn, phaseIn, plannerIn, orderIn, turnIn, walkerIn, doingIn, numbers, machineFrom}
-use Rattle.vhdx_pieces_slots.specs.Sanity.{sane}
-use Rattle.vhdx_pieces_slots.specs.Loading.{same, known, loaded, DecidesSane, LoadsOwn, Restores}
+use Rattle.vhdx_pieces_sanity.specs.Sanity.{sane}
+use Rattle.vhdx_pieces_slots.specs.Loading.{same, known, loaded, LoadsOwn, Restores}
 use Rattle.vhdx_pieces_slots.proofs.Restored.{restored}
-use Rattle.vhdx_pieces_slots.proofs.Decided.{decided}
-
-pub decides-sane : DecidesSane
-decides-sane m = (decided m .sound, decided m .complete)
+use Rattle.vhdx_pieces_sanity.proofs.Decided.{decided}
 
 every-same : (m : ℕ) (xs : List ℕ) → every m (λ i. eqb (getD xs i 0) (getD xs i 0)) ≡ true
 unfolding every

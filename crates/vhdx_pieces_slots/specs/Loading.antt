@@ -1,6 +1,6 @@
 -- A machine that is read back from its numbers; other numbers are no machine's.
 -- Assumes nothing.
-use mathlib.Core.Bool.{Bool, true, cond, _&&_}
+use mathlib.Core.Bool.{Bool, cond, _&&_}
 use mathlib.Core.List.{List}
 use mathlib.Core.Path.{_≡_}
 use Prim.Native.Nat.{ℕ, _<_}
@@ -19,7 +19,7 @@ use Rattle.vhdx_pieces.specs.Machines.{Sane}
 use Rattle.vhdx_pieces_slots.specs.declared.Loaded.{Loaded}
 use Rattle.vhdx_pieces_slots.specs.declared.Loaded.the-variants.{Known, Unknown}
 use Rattle.vhdx_pieces_slots.specs.Slots.{numbers, machineFrom}
-use Rattle.vhdx_pieces_slots.specs.Sanity.{sane}
+use Rattle.vhdx_pieces_sanity.specs.Sanity.{sane}
 
 -- two arrays hold the same
 unfoldable pub same : List ℕ → List ℕ → Bool
@@ -38,10 +38,6 @@ Sound (Known m) = Sane m
 Sound Unknown = Unit {0}
 
 -- ---- the laws
-
--- the test is neither too narrow nor too wide
-abbrev pub DecidesSane : Type 0
-DecidesSane = (m : Machine) → (sane m ≡ true → Sane m) × (Sane m → sane m ≡ true)
 
 -- what is loaded has these very numbers
 abbrev pub LoadsOwn : Type 0

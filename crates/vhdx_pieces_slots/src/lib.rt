@@ -1,7 +1,6 @@
 // A machine of the log's work in pieces as 64 numbers, as programs in other languages hold it between two calls.
-// Its modules: `writing`, the parts of a machine into their slots; `reading`, out of them; `sanity`, what a machine keeps to.
+// Its modules: `writing`, the parts of a machine into their slots; `reading`, out of them.
 mod reading;
-mod sanity;
 mod writing;
 
 use vhdx_pieces::Machine;
@@ -55,7 +54,7 @@ pub fn load(slots: &[u64; 64]) -> Loaded
     let m = reading::machine(slots);
     let mut again = [0; 64];
     save(m, &mut again);
-    if sanity::is_sane(m) & are_same(&again, slots) {
+    if vhdx_pieces_sanity::is_sane(m) & are_same(&again, slots) {
         return Loaded::Known(m);
     }
     Loaded::Unknown

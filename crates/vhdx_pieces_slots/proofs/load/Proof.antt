@@ -3,7 +3,7 @@
 use mathlib.Core.Path.{sym, _∙_}
 use mathlib.Core.Bool.{and-eq-true-iff}
 use Rattle.vhdx_pieces_slots.specs.Loading.{known, loaded}
-use Rattle.vhdx_pieces_slots.proofs.Decided.{decided}
+use Rattle.vhdx_pieces_sanity.proofs.Decided.{decided}
 use borrow.Author.Needs.{needs}
 use Rattle.vhdx_pieces_slots.proofs.load.Statement.{statement}
 use Rattle.vhdx_pieces_slots.proofs.load.Tie as tie
