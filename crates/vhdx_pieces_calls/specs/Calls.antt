@@ -1,8 +1,9 @@
 -- The log's work in pieces over a machine's numbers, any numbers.
 -- Assumes nothing.
-use mathlib.Core.List.{List, [], _++_}
-use lib.ListN.{take, drop}
+use mathlib.Core.List.{List, []}
+use lib.ListN.{take}
 use Prim.Native.Nat.{ℕ}
+use Rattle.vhdx_replay.specs.Buffer.{put}
 use Rattle.vhdx_slots.specs.Slots.{bit}
 use Rattle.vhdx_pieces.specs.declared.Machine.{Machine}
 use Rattle.vhdx_pieces.specs.declared.Turn.{Turn}
@@ -31,7 +32,7 @@ numbersOf (Refused c) = zeros
 
 -- the piece, at a write with what is to be written in place of what was read
 abbrev pub pieceOf : Turn → List ℕ → List ℕ
-pieceOf (Write m) p = writtenOf m (take 4096 p) .bytes ++ drop 4096 p
+pieceOf (Write m) p = put p 0 (writtenOf m (take 4096 p) .bytes)
 pieceOf (Read m) p = p
 pieceOf (Grow m) p = p
 pieceOf (Done w) p = p

@@ -2,12 +2,13 @@
 use vhdx_pieces::Machine;
 use vhdx_pieces::Turn;
 use vhdx_pieces_slots::Loaded;
+use vhdx_replay::store;
 ghost use mathlib.Core.Path.{_≡_};
+ghost use lib.ListN.{length as lengthOf, take};
 ghost use Rattle.vhdx_pieces.specs.Machines.{Sane, Kept, isDataOf, started};
-ghost use Rattle.vhdx_pieces_slots.specs.Slots.{zeros};
 ghost use Rattle.vhdx_pieces_slots.specs.Loading.{loaded};
 ghost use Rattle.vhdx_slots.specs.Slots.{bit};
-ghost use Rattle.vhdx_pieces_calls.specs.Calls.{requestOf, numbersOf, pieceOf, turnOf, nextRequest, nextNumbers, nextPiece, noMachine};
+ghost use Rattle.vhdx_pieces_calls.specs.Calls.{requestOf, numbersOf, pieceOf, turnOf, nextRequest, nextNumbers, nextPiece};
 
 // The kind: 0 refused, 1 read, 2 grow, 3 write, 4 done, 5 no machine has these numbers. Then the refusal's number; the offset and
 // how many bytes; the length; the offset and whether it is a data descriptor's; the final length and the count.
@@ -62,14 +63,24 @@ fn fill(turn: Turn, piece: &mut [u8; 65536])
 {
     match turn {
         Turn::Write(m) => {
-            let view: &mut [u8] = piece;
-            vhdx_pieces::fill(m, &mut view[..4096]);
+            let mut sector = first_sector(piece);
+            vhdx_pieces::fill(m, &mut sector);
+            store::bytes(piece, 0, &sector);
         }
         Turn::Read(_) => {}
         Turn::Grow(_) => {}
         Turn::Done(_) => {}
         Turn::Refused(_) => {}
     }
+}
+
+fn first_sector(piece: &[u8; 65536]) -> [u8; 4096]
+    ensures { λ r. ⌜ (r ≡ take 4096 (now (piece .entry))) × (lengthOf r ≡ 4096) ⌝ }
+{
+    let view: &[u8] = piece;
+    let mut sector = store::blank();
+    store::bytes(&mut sector, 0, &view[..4096]);
+    sector
 }
 
 // What is asked for; the machine is kept where it goes on.
