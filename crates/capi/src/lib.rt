@@ -142,10 +142,7 @@ pub extern "C" fn shrunvaki_vhdx_pieces_start(
     ensures { λ r. ⌜ now (machine .exit) ≡ numbersOf (started length capacity) ⌝ }
     ensures { λ r. ⌜ now (answer .exit) ≡ requestIn (requestOf (started length capacity)) (now (answer .entry)) ⌝ }
 {
-    put_request(
-        vhdx_pieces_calls::start(length, capacity, machine),
-        answer,
-    )
+    put_request(vhdx_pieces_calls::start(length, capacity, machine), answer)
 }
 
 // The same, after what was asked for is done; 5 where no machine has these numbers.

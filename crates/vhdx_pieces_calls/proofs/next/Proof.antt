@@ -20,18 +20,22 @@ returns c =
     let a = c .before .before .before .before .before .before .before .before .before .before .before .args in
     let l = sym (c .before .before .before .before .before .before .before .before .before .load .ensures .0) ∙ c .before .before .before .before .before .before .before .m .given .1 in
     let t = c .before .before .before .before .turn .ensures .0 in (
-      c .answer .ensures .0 ∙ ap requestOf t ∙ sym (ap (λ (x : Loaded). nextRequest x (a .piece .now)) l), (
-      c .answer .ensures .1 ∙ ap numbersOf t ∙ sym (ap (λ (x : Loaded). nextNumbers x (a .machine .now) (a .piece .now)) l),
-      c .before .before .fill .ensures ∙ ap (λ (x : Turn). pieceOf x (a .piece .now)) t ∙ sym (ap (λ (x : Loaded). nextPiece x (a .piece .now)) l)),
+      c .answer .ensures .0 ∙ ap requestOf t ∙ sym (ap (λ (x : Loaded). nextRequest x (a .piece .now)) l),
+      (
+        c .answer .ensures .1 ∙ ap numbersOf t ∙ sym (ap (λ (x : Loaded). nextNumbers x (a .machine .now) (a .piece .now)) l),
+        c .before .before .fill .ensures ∙ ap (λ (x : Turn). pieceOf x (a .piece .now)) t ∙ sym (ap (λ (x : Loaded). nextPiece x (a .piece .now)) l),
+      ),
     )
 
 returns-2 : tie.Need-returns-2
 returns-2 c =
     let a = c .before .before .before .before .args in
     let l = sym (c .before .before .load .ensures .0) ∙ c .enum-told .given .1 in (
-      sym (ap (λ (x : Loaded). nextRequest x (a .piece .now)) l), (
-      sym (ap (λ (x : Loaded). nextNumbers x (a .machine .now) (a .piece .now)) l),
-      sym (ap (λ (x : Loaded). nextPiece x (a .piece .now)) l)),
+      sym (ap (λ (x : Loaded). nextRequest x (a .piece .now)) l),
+      (
+        sym (ap (λ (x : Loaded). nextNumbers x (a .machine .now) (a .piece .now)) l),
+        sym (ap (λ (x : Loaded). nextPiece x (a .piece .now)) l),
+      ),
     )
 
 pub next-spec : {M : Type 1} → statement M
