@@ -44,7 +44,7 @@ use Rattle.vhdx_pieces_plan.specs.declared.Step.the-variants.{Ended}
 use Rattle.vhdx_pieces_plan.specs.Planning.{sectorsOf, judged, toured, sought, scanned, withLog, contextOf, answered, headed, stepIn, stepOf, Bounded, SaneIn, Ordered, Kept, scanMost, surveyMost, planMost, leftIn, leftOf, PlanAdvances, PlanStarts}
 
 -- as `chosen`, of a test that refuses where it fails
-checked : {A : Type 0} (P : A → Type 0) (b : Bool) (x y : A) → P x → (b ≡ true → P y) → P (check b x y)
+pub checked : {A : Type 0} (P : A → Type 0) (b : Bool) (x y : A) → P x → (b ≡ true → P y) → P (check b x y)
 checked P true x y f g = g refl
 checked P false x y f g = f
 

@@ -1,3 +1,4 @@
 pub mod Turns
 pub mod Advancing
 pub mod Planned
+pub mod Asking

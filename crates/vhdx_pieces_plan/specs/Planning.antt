@@ -191,6 +191,24 @@ PlanAdvances = (x : Planner) (p : List ℕ) → Sane x → Kept (x .context .len
 abbrev pub PlanStarts : Type 0
 PlanStarts = (n capacity : ℕ) → n < 18446744073709551616 → Kept n (started n capacity) × (leftOf (started n capacity) ≤ planMost)
 
+-- what is wanted: 1 to 65,536 bytes of the file
+abbrev pub PlanWants : Type 0
+PlanWants =
+    (x : Planner) → Sane x
+    → (1 ≤ wantedOf x .length) × (wantedOf x .length ≤ 65536) × (wantedOf x .offset + wantedOf x .length ≤ x .context .length)
+
+-- a refusal has a number of 1 to 8
+abbrev pub NumberedIn : Outcome → Type 0
+NumberedIn (Refused c) = (1 ≤ c) × (c ≤ 8)
+NumberedIn (Apply w) = Unit {0}
+
+abbrev pub Numbered : Step → Type 0
+Numbered (Read p) = Unit {0}
+Numbered (Ended o) = NumberedIn o
+
+abbrev pub PlanRefuses : Type 0
+PlanRefuses = ((n capacity : ℕ) → Numbered (started n capacity)) × ((x : Planner) (p : List ℕ) → Numbered (stepOf x p))
+
 -- fed the bytes of b that it wants, all of them among its first n and at most 64 KiB at once, it ends with this outcome
 pub data Plans (b : List ℕ) (n : ℕ) : Step → Outcome → Type 0 where
   stop : {o : Outcome} → Plans b n (Ended o) o
