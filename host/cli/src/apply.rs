@@ -7,20 +7,26 @@
 //! any order: running the command again gives what an undisturbed run gives.
 use crate::attach::{Log, Report};
 use crate::output::{Output, Status, Stop};
+use crate::pieces;
 use crate::progress::timed;
 use crate::snapshot::Snapshot;
 use crate::source::{Opened, Source};
 use crate::text::grouped;
 use crate::writing::{self, announce};
-use shrunvaki::vhdx::{Attachment, Image, Plan};
+use shrunvaki::vhdx::{Image, Plan};
+use std::io;
 
 pub fn run(source: &Source, wait: bool, out: &mut Output) -> Result<Status, Stop> {
     // locked from before the decision until all is flushed: the file that is changed is the one that was judged
     let opened = source.open_exclusive(wait)?;
-    let report = perform(&opened, |plan| {
+    let tell = |plan: &Plan| {
         let work = format!("applying: {} sectors", grouped(plan.count));
         announce(&opened, plan, &work, out)
-    })?;
+    };
+    let report = match pieces::are_used(source, &opened) {
+        true => pieces::apply(&opened, tell)?,
+        false => perform(&opened, tell)?,
+    };
     report.print(out)
 }
 
@@ -32,14 +38,7 @@ pub fn perform(
     let image = opened.image()?;
     let plan = match image.plan() {
         Ok(plan) => plan,
-        Err(refusal) => {
-            let attachment = Attachment {
-                length: opened.length,
-                count: 0,
-                facts: Err(refusal),
-            };
-            return Report::new(opened, attachment, Log::Unknown);
-        }
+        Err(refusal) => return Report::of_plan(opened, Err(refusal), Log::Unknown),
     };
     opened.allow(&plan)?;
     tell(&plan)?;
@@ -47,11 +46,7 @@ pub fn perform(
     let mut image = Image::new(image.into_buffer(), plan.length);
     let attachment = timed("applying the log", || image.attach());
     write_out(opened, &plan, &image.into_buffer())?;
-    let log = match plan {
-        Plan { count: 0, length } if length == opened.length => Log::None,
-        _ => Log::Applied,
-    };
-    Report::new(opened, attachment, log)
+    Report::of_attachment(opened, attachment, Log::Applied)
 }
 
 /// Extends the file to its final length, writes what the log has changed, and has all of it reach the disk. What was judged has to
@@ -59,10 +54,13 @@ pub fn perform(
 fn write_out(opened: &Opened, plan: &Plan, applied: &Snapshot) -> Result<(), Stop> {
     writing::require(applied.is_current(), opened)?;
     opened.grow(plan.length)?;
-    writing::write_out(opened, applied, 0..plan.length).map_err(|error| {
-        let name = &opened.name;
-        Stop::failed(format!(
-            "{name}: {error}; what was applied stays applied, and applying again does the rest"
-        ))
-    })
+    writing::write_out(opened, applied, 0..plan.length).map_err(|error| broken_off(opened, &error))
+}
+
+/// What is said where a file that is written to fails.
+pub fn broken_off(opened: &Opened, error: &io::Error) -> Stop {
+    let name = &opened.name;
+    Stop::failed(format!(
+        "{name}: {error}; what was applied stays applied, and applying again does the rest"
+    ))
 }

@@ -34,11 +34,12 @@ pub enum Action {
 }
 
 /// The options that take no value, those that take a number, and the one that takes an identifier.
-const FLAGS: [&str; 6] = [
+const FLAGS: [&str; 7] = [
     "--json",
     "--help",
     "--version",
     "--apply",
+    "--pieces",
     "--wait",
     "--force",
 ];
@@ -182,11 +183,11 @@ impl Given {
                 })
             }
             _ if self.flags.contains("--apply") => {
-                self.only(name, &of_file(&["--apply", "--wait"]), 0)?;
+                self.only(name, &of_file(&["--apply", "--pieces", "--wait"]), 0)?;
                 Ok(Action::Apply { source, wait })
             }
             _ => {
-                self.only(name, &of_file(&[]), 0)?;
+                self.only(name, &of_file(&["--pieces"]), 0)?;
                 Ok(Action::Attach(source))
             }
         }
@@ -199,6 +200,7 @@ impl Given {
         };
         let mut source = Source::new(path);
         source.capacity = self.numbers.get("--capacity").copied();
+        source.pieces = self.flags.contains("--pieces");
         if let Some(sectors) = self.numbers.get("--max-sectors") {
             source.max_sectors = *sectors;
         }

@@ -1,10 +1,11 @@
 //! `attach FILE`: what attach answers; the file is not changed.
 use crate::json::Object;
 use crate::output::{Output, Status, Stop};
+use crate::pieces;
 use crate::refused;
 use crate::source::{OnHost, Opened, Source};
 use crate::text::{grouped, size};
-use shrunvaki::vhdx::{Attachment, Extent, Facts};
+use shrunvaki::vhdx::{Attachment, Extent, Facts, Plan, Refusal};
 
 /// What became of the file's log.
 #[derive(Debug, PartialEq, Eq, Clone, Copy)]
@@ -21,39 +22,75 @@ pub enum Log {
 
 /// What is to be told of a file.
 pub struct Report<'a> {
-    pub opened: &'a Opened,
-    pub attachment: Attachment,
-    pub host: OnHost,
-    pub log: Log,
+    opened: &'a Opened,
+    /// What the log asks for.
+    plan: Plan,
+    /// None where the tables were not read.
+    facts: Result<Option<Facts>, Refusal>,
+    host: OnHost,
+    log: Log,
 }
 
 pub fn run(source: &Source, out: &mut Output) -> Result<Status, Stop> {
     let opened = source.open()?;
-    Report::in_memory(&opened)?.print(out)
+    let report = match pieces::are_used(source, &opened) {
+        true => pieces::attach(&opened)?,
+        false => Report::in_memory(&opened)?,
+    };
+    report.print(out)
 }
 
 impl<'a> Report<'a> {
     /// What attach answers, with the log applied in memory alone.
     pub fn in_memory(opened: &'a Opened) -> Result<Report<'a>, Stop> {
         let (_, attachment) = opened.attach()?;
-        let log = match &attachment {
-            Attachment {
-                facts: Err(refusal),
-                ..
-            } if refusal.is_before_the_log() => Log::Unknown,
-            Attachment {
-                count: 0, length, ..
-            } if *length == opened.length => Log::None,
-            _ => Log::Pending,
-        };
-        Report::new(opened, attachment, log)
+        Report::of_attachment(opened, attachment, Log::Pending)
     }
 
-    pub fn new(opened: &'a Opened, attachment: Attachment, log: Log) -> Result<Report<'a>, Stop> {
+    /// `became`: what became of a log that asks for something.
+    pub fn of_attachment(
+        opened: &'a Opened,
+        attachment: Attachment,
+        became: Log,
+    ) -> Result<Report<'a>, Stop> {
+        let Attachment {
+            length,
+            count,
+            facts,
+        } = attachment;
+        Report::new(opened, Plan { length, count }, facts.map(Some), became)
+    }
+
+    /// The same where no tables were read.
+    pub fn of_plan(
+        opened: &'a Opened,
+        planned: Result<Plan, Refusal>,
+        became: Log,
+    ) -> Result<Report<'a>, Stop> {
+        let nothing = Plan {
+            length: opened.length,
+            count: 0,
+        };
+        let facts = planned.map(|_| None);
+        Report::new(opened, planned.unwrap_or(nothing), facts, became)
+    }
+
+    fn new(
+        opened: &'a Opened,
+        plan: Plan,
+        facts: Result<Option<Facts>, Refusal>,
+        became: Log,
+    ) -> Result<Report<'a>, Stop> {
+        let log = match facts {
+            Err(refusal) if refusal.is_before_the_log() => Log::Unknown,
+            _ if plan.count == 0 && plan.length == opened.length => Log::None,
+            _ => became,
+        };
         let host = opened.on_host()?;
         Ok(Report {
             opened,
-            attachment,
+            plan,
+            facts,
             host,
             log,
         })
@@ -61,7 +98,7 @@ impl<'a> Report<'a> {
 
     pub fn print(&self, out: &mut Output) -> Result<Status, Stop> {
         out.answer(|| self.lines(), || self.object())?;
-        Ok(match self.attachment.facts {
+        Ok(match self.facts {
             Ok(_) => Status::Answered,
             Err(_) => Status::Refused,
         })
@@ -70,21 +107,25 @@ impl<'a> Report<'a> {
     /// What people come for stands first.
     fn lines(&self) -> Vec<String> {
         let mut lines = vec![format!("file: {}", self.opened.name)];
-        match &self.attachment.facts {
-            Ok(facts) => {
+        match &self.facts {
+            Ok(Some(facts)) => {
                 lines.push(format!("size to charge: {}", size(facts.disk_size)));
                 lines.push(format!("kind: {}", kind(facts)));
             }
+            Ok(None) => lines.push(
+                "size to charge: not known; in pieces the log alone is read, and no tables"
+                    .to_string(),
+            ),
             Err(refusal) => lines.extend(refused::lines(self.opened, *refusal)),
         }
         lines.extend(self.log_line());
         lines.extend(self.host.lines(self.opened));
-        lines.extend(self.attachment.facts.iter().flat_map(facts_lines));
+        lines.extend(self.facts.iter().flatten().flat_map(facts_lines));
         lines
     }
 
     fn log_line(&self) -> Option<String> {
-        let Attachment { length, count, .. } = self.attachment;
+        let Plan { length, count } = self.plan;
         Some(match self.log {
             Log::Unknown => return None,
             Log::None => "log: none".to_string(),
@@ -107,13 +148,12 @@ impl<'a> Report<'a> {
     }
 
     pub fn object(&self) -> Object {
-        let facts = self.attachment.facts.as_ref();
         let object = Object::about(&self.opened.name);
-        let object = match facts {
-            Ok(facts) => object
+        let object = match &self.facts {
+            Ok(Some(facts)) => object
                 .number("size_to_charge", facts.disk_size)
                 .text("kind", kind(facts)),
-            Err(_) => object.null("size_to_charge").null("kind"),
+            _ => object.null("size_to_charge").null("kind"),
         };
         let object = match self.log {
             Log::Unknown => object.null("log"),
@@ -121,15 +161,21 @@ impl<'a> Report<'a> {
             Log::Pending => object.text("log", "pending"),
             Log::Applied => object.text("log", "applied"),
         };
-        let Attachment { length, count, .. } = self.attachment;
+        let Plan { length, count } = self.plan;
         let object = (self.host)
             .fields(object, self.opened, length, count)
             .boolean("locked_by_another", self.opened.locked_by_another);
-        match facts {
-            Ok(facts) => object.null("refusal").object("facts", facts_object(facts)),
-            Err(refusal) => object
-                .object("refusal", refused::object_of(self.opened, *refusal))
-                .null("facts"),
+        let object = match self.facts {
+            Ok(_) => object.null("refusal"),
+            Err(refusal) => object.object("refusal", refused::object_of(self.opened, refusal)),
+        };
+        let object = match (&self.facts, self.log) {
+            (Ok(None), _) | (_, Log::Unknown) => object.text("tables", "not read"),
+            _ => object.text("tables", "read"),
+        };
+        match &self.facts {
+            Ok(Some(facts)) => object.object("facts", facts_object(facts)),
+            _ => object.null("facts"),
         }
     }
 }

@@ -36,7 +36,7 @@ and nothing was written.
 ";
 
 const ATTACH: &str = "\
-shrunvaki attach FILE [--capacity BYTES] [--max-sectors N] [--json]
+shrunvaki attach FILE [--pieces] [--capacity BYTES] [--max-sectors N] [--json]
 
 Applies the file's pending log in memory, reads its tables, and prints the size
 to charge, the kind of disk, whether a log is pending, how long the file is and
@@ -49,8 +49,8 @@ than memory.
 A file that another program has locked is read all the same, and a line on
 standard error says so.
 
-shrunvaki attach --apply FILE [--wait] [--capacity BYTES] [--max-sectors N]
-                 [--json]
+shrunvaki attach --apply FILE [--pieces] [--wait] [--capacity BYTES]
+                 [--max-sectors N] [--json]
 
 Does the same to the file itself. It takes an exclusive lock (--wait waits for
 another program's), decides first, prints how many sectors the log writes and
@@ -67,6 +67,19 @@ at once, of which the theorem as it is stated does not speak.
 
 The log stays in the file, and every attach applies it again. Nobody may write
 to the disk in between, or the log would undo it; shrunvaki close ends that.
+
+  --pieces           do the log's work in pieces of at most 64 KiB, without a
+                     buffer for the file and with next to no memory. The tables
+                     are not read: it answers refusal 1 to 8, or how long the
+                     log makes the file and how many sectors it writes, and not
+                     the size to charge
+
+A file that is longer than what a process can map (some 80 TiB) is attached in
+pieces also without this option, and a line on standard error says so; the other
+commands do not take it. With --apply, sectors are written as often as the log
+names them, in its order. What others write to the log meanwhile, without a
+lock, is noticed only where the log then asks for other growth or for another
+number of sectors.
 ";
 
 const CLOSE: &str = "\

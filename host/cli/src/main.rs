@@ -1,8 +1,9 @@
 //! The command `shrunvaki`: what a VHDX file from a stranger is, answered by the proved library.
 //!
 //! A module a command; `arguments` and `help` are what a user writes and reads, `output`, `json`, `text` and `refused` what is
-//! printed, `source` a file under a `lock` in a `snapshot`, `writing` how the file itself is changed, `foreign` files of other
-//! formats, `runs` the disk's sectors run by run, `progress` the line on long work, `os` what the standard library lacks.
+//! printed, `source` a file under a `lock` in a `snapshot`, `pieces` one that no buffer holds, `writing` how the file itself is
+//! changed, `foreign` files of other formats, `runs` the disk's sectors run by run, `progress` the line on long work, `os` what the
+//! standard library lacks.
 mod apply;
 mod arguments;
 mod attach;
@@ -18,6 +19,7 @@ mod map;
 mod os;
 mod output;
 mod parent;
+mod pieces;
 mod progress;
 mod refused;
 mod runs;

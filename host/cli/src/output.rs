@@ -36,7 +36,8 @@ pub enum Stop {
     /// A log asks for more than the user allows. Nothing was written.
     TooMuchWork {
         file: Name,
-        sectors: u64,
+        /// None where they were not counted to the end.
+        sectors: Option<u64>,
         max_sectors: u64,
     },
     /// Nobody reads the output any more.
@@ -206,15 +207,21 @@ impl Output {
                 sectors,
                 max_sectors,
             } => {
+                let asked = match sectors {
+                    Some(sectors) => format!("{} sectors", grouped(sectors)),
+                    None => format!("at least {} sectors", grouped(max_sectors + 1)),
+                };
                 let message = format!(
-                    "{file}: its log asks for {} sectors to be written, those that it adds to the file among them, more than the {} that \
+                    "{file}: its log asks for {asked} to be written, those that it adds to the file among them, more than the {} that \
                      --max-sectors allows. Nothing was written. If the file is to be trusted that far, give more with --max-sectors; if not, treat it as hostile.",
-                    grouped(sectors),
                     grouped(max_sectors)
                 );
-                let object = error_object("too much work", &message)
-                    .number("sectors", sectors)
-                    .number("max_sectors", max_sectors);
+                let object = error_object("too much work", &message);
+                let object = match sectors {
+                    Some(sectors) => object.number("sectors", sectors),
+                    None => object.null("sectors"),
+                }
+                .number("max_sectors", max_sectors);
                 (message, Object::about(&file).object("error", object), 4)
             }
         };

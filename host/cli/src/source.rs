@@ -32,6 +32,8 @@ pub struct Source {
     /// The file's length and some growth, where it is not given.
     pub capacity: Option<u64>,
     pub max_sectors: u64,
+    /// The log's work is to be done in pieces.
+    pub pieces: bool,
 }
 
 impl Source {
@@ -40,6 +42,7 @@ impl Source {
             path,
             capacity: None,
             max_sectors: MAX_SECTORS,
+            pieces: false,
         }
     }
 
@@ -132,16 +135,29 @@ impl Opened {
 
     /// That a plan is no more than is allowed. Growth is work too: zeros are written from the file's end on.
     pub fn allow(&self, plan: &Plan) -> Result<(), Stop> {
+        let sectors = self.sectors(plan);
+        self.allow_if(sectors <= self.max_sectors, Some(sectors))
+    }
+
+    /// The same of a plan as far as it was counted: what the log asks for in the end is not known.
+    pub fn allow_so_far(&self, plan: &Plan) -> Result<(), Stop> {
+        self.allow_if(self.sectors(plan) <= self.max_sectors, None)
+    }
+
+    fn sectors(&self, plan: &Plan) -> u64 {
         let growth = (plan.length - self.length).div_ceil(SECTOR);
-        let sectors = plan.count.saturating_add(growth);
-        if sectors <= self.max_sectors {
-            return Ok(());
+        plan.count.saturating_add(growth)
+    }
+
+    fn allow_if(&self, allowed: bool, sectors: Option<u64>) -> Result<(), Stop> {
+        match allowed {
+            true => Ok(()),
+            false => Err(Stop::TooMuchWork {
+                file: self.name.clone(),
+                sectors,
+                max_sectors: self.max_sectors,
+            }),
         }
-        Err(Stop::TooMuchWork {
-            file: self.name.clone(),
-            sectors,
-            max_sectors: self.max_sectors,
-        })
     }
 
     /// The file in a buffer of the capacity.
@@ -162,16 +178,23 @@ impl Opened {
         })
     }
 
+    /// Whether a buffer can hold the file, or as much of it as the capacity allows.
+    pub fn fits(&self) -> bool {
+        let capacity = self.capacity.min(self.length);
+        Snapshot::new(&self.file, self.length, capacity).is_ok()
+    }
+
     fn cannot_map(&self, error: &io::Error) -> Stop {
         let (name, capacity) = (&self.name, size(self.capacity));
         let limit = "than this process may have (its address space, or ulimit -v)";
-        let alone = Snapshot::new(&self.file, self.length, self.length);
-        Stop::failed(if !self.by_default {
-            format!("{name}: cannot have a buffer of {capacity}, more {limit}: give less with --capacity ({error})")
-        } else if alone.is_err() {
+        Stop::failed(if !self.fits() {
             format!(
-                "{name}: the file is longer {limit}: {}. With a --capacity below its length it is refused as 1 ({error})",
+                "{name}: the file is longer {limit}: {}. Only attach takes such a file, and does its log's work in pieces ({error})",
                 size(self.length)
+            )
+        } else if !self.by_default {
+            format!(
+                "{name}: cannot have a buffer of {capacity}, more {limit}: give less with --capacity, or attach with --pieces ({error})"
             )
         } else {
             format!(

@@ -1,4 +1,4 @@
-//! How what a log changes in memory reaches the file: what `attach --apply` and `close` share.
+//! How what a log changes reaches the file: what `attach --apply`, also in pieces, and `close` share.
 use crate::output::{note, Output, Stop};
 use crate::progress::{timed, Progress};
 use crate::snapshot::Snapshot;
@@ -43,5 +43,9 @@ pub fn write_out(opened: &Opened, changed: &Snapshot, range: Range<u64>) -> io::
     let end = range.end;
     let mut progress = Progress::new("writing", 1);
     changed.write_to(&opened.file, range, |done| progress.at(done, end))?;
+    flush(opened)
+}
+
+pub fn flush(opened: &Opened) -> io::Result<()> {
     timed("flushing", || opened.file.sync_all())
 }

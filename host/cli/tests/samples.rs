@@ -141,7 +141,11 @@ fn without_a_pending_log_applying_and_closing_change_nothing() {
     let folder = folder("samples-clean");
     for name in CLEAN {
         let (file, original) = unpack_disk(&folder, name);
-        for arguments in [&["attach", "--apply"][..], &["close"]] {
+        for arguments in [
+            &["attach", "--apply"][..],
+            &["attach", "--apply", "--pieces"],
+            &["close"],
+        ] {
             shrunvaki(arguments, &file).with(0);
             assert_same_files(&[], &file, &original);
         }

@@ -1,13 +1,13 @@
-//! Files that are tried by every test here: those of the test kit, refused ones, and those that qemu made.
-use shrunvaki_testkit::causes::{good, FILES};
-use shrunvaki_testkit::command::end;
-use shrunvaki_testkit::image::{Entry, Image, GUID, MIB};
-use shrunvaki_testkit::pending::{
+//! Files whose log's work is tried in pieces: those with a pending log, refused ones, and those that qemu made.
+use crate::causes::{good, FILES};
+use crate::command::end;
+use crate::image::{Entry, Image, GUID, MIB};
+use crate::pending::{
     data, ends_in_14, growth_alone, no_growth, r1, r1_with, rich, sample_file, small_blocks,
     without_a_log, zero, Pending,
 };
-use shrunvaki_testkit::sample::M;
-use shrunvaki_testkit::tables::Disk;
+use crate::sample::M;
+use crate::tables::Disk;
 use std::path::Path;
 use std::process::Command;
 

@@ -1,62 +1,25 @@
 //! `plan` on logs of 64 MiB that an attacker would choose, against one pass of the project's own CRC-32C over 64 MiB in the
 //! same run, and in turn with the plain model's. Prints the ratios; exits with status 1 where one is above the limit in passes.
-use shrunvaki_testkit::image::{seal, Descriptor, Entry, Image, GUID, MIB, SECTOR};
+use shrunvaki_testkit::image::{seal, Image, MIB, SECTOR};
+use shrunvaki_testkit::long_log::{chain, full_of_data, LOG, MOST_DESCRIPTORS, SECTORS};
 use shrunvaki_testkit::measure::{crc_pass, finish, in_turn, report, time};
 use shrunvaki_testkit::model;
 use shrunvaki_testkit::vhdx::{self, Plan};
 use std::hint::black_box;
 
-const LOG: usize = 64 * MIB;
-const SECTORS: usize = LOG / SECTOR;
 const LIMIT: f64 = 4.0;
 const TURNS: usize = 5;
 
 /// Builds the image of a case.
 type Build = fn() -> Image;
 
-fn image() -> Image {
-    Image::new(LOG + 4 * MIB, (LOG + 3 * MIB) as u64, LOG, GUID)
-}
-
-/// One entry whose descriptors and data sectors fill the log.
-fn one_entry() -> Image {
-    let data = SECTORS - 128;
-    let bytes = vec![7; SECTOR];
-    let mut entry = Entry::new(1, 0);
-    entry.descriptors = vec![
-        Descriptor::Data {
-            offset: (LOG + 2 * MIB) as u64,
-            bytes
-        };
-        data
-    ];
-    assert_eq!(entry.sectors(), (128, data));
-    let mut image = image();
-    image.entry(0, &entry);
-    image
-}
-
-/// 16,384 valid entries of one sector, in one chain that begins in the middle of the ring.
-fn chain() -> Image {
-    let mut image = image();
-    let start = SECTORS / 2;
-    for i in 0..SECTORS {
-        let mut entry = Entry::new(1 + i as u64, start);
-        entry.descriptors = vec![
-            Descriptor::Zero {
-                offset: (LOG + 2 * MIB) as u64,
-                length: 4096
-            };
-            126
-        ];
-        image.entry((start + i) % SECTORS, &entry);
-    }
-    image
+fn valid_entries() -> Image {
+    chain(MOST_DESCRIPTORS)
 }
 
 /// 16,384 candidates of one sector that are valid but for their checksum.
 fn bad_checksums() -> Image {
-    let mut image = chain();
+    let mut image = valid_entries();
     for sector in image.log_mut().chunks_mut(SECTOR) {
         sector[4] ^= 1;
     }
@@ -66,7 +29,7 @@ fn bad_checksums() -> Image {
 /// In every sector a header with the largest DescriptorCount and EntryLength that the log's length allows, and descriptors
 /// that keep their rule to the sector's end.
 fn greedy_headers() -> Image {
-    let mut image = chain();
+    let mut image = valid_entries();
     let count = ((LOG - 64) / 32) as u32;
     for sector in image.log_mut().chunks_mut(SECTOR) {
         sector[8..12].copy_from_slice(&(LOG as u32).to_le_bytes());
@@ -105,13 +68,13 @@ fn main() {
     let cases: [(&str, Build, Plan); 4] = [
         (
             "one entry that fills the log",
-            one_entry,
+            || full_of_data(1),
             applied(SECTORS as u64 - 128),
         ),
         (
             "16,384 valid entries in one chain",
-            chain,
-            applied(126 * SECTORS as u64),
+            valid_entries,
+            applied((MOST_DESCRIPTORS * SECTORS) as u64),
         ),
         (
             "16,384 candidates with a wrong checksum",

@@ -1,4 +1,4 @@
-//! `attach --apply`: what it does to the file, and when it does nothing; and what `close` has in common with it.
+//! `attach --apply`: what it does to the file, and when it does nothing; and what it has in common in pieces, and `close` with it.
 use crate::close::{closed, STORED, WRITTEN};
 use crate::sample::{bytes, in_shell, Sample, PROGRAM};
 use shrunvaki_testkit::pending::{r1, rich, sample_file, small_blocks};
@@ -9,8 +9,9 @@ use std::thread;
 use std::time::Duration;
 
 /// The commands that change a file.
-const WRITERS: [(&str, &[&str]); 2] = [
+const WRITERS: [(&str, &[&str]); 3] = [
     ("attach", &["--apply"]),
+    ("attach", &["--apply", "--pieces"]),
     ("close", &["--identifier", WRITTEN]),
 ];
 
@@ -135,7 +136,12 @@ fn a_lock_of_another_keeps_it_out_and_readers_not() {
         );
     }
     file.lock().expect("an exclusive lock");
-    for (command, more) in [("attach", &[][..]), ("lookup", &["0"]), ("cat", &[])] {
+    for (command, more) in [
+        ("attach", &[][..]),
+        ("attach", &["--pieces"]),
+        ("lookup", &["0"]),
+        ("cat", &[]),
+    ] {
         let ran = sample.run(command, more).with(0);
         assert!(ran.errors.contains(locked), "{}", ran.errors);
     }

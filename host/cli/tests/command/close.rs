@@ -1,15 +1,12 @@
 //! `close`: what it does to the file and says of it, and when it does nothing. Crashes are in `crash.rs`, what it has in common with
 //! `attach --apply` in `apply.rs`.
-use crate::sample::{bytes, Sample, PROGRAM};
+use crate::changing::change_when_judged;
+use crate::sample::{bytes, Sample};
 use shrunvaki_testkit::image::{put64, seal, Entry, Image, GUID, HEADERS, MIB, SECTOR};
 use shrunvaki_testkit::json::Json;
 use shrunvaki_testkit::pending::{r1, rich, sample_file, small_blocks, Pending};
 use std::fs::File;
-use std::io::{self, Write};
 use std::os::unix::fs::FileExt;
-use std::process::{Command, Stdio};
-use std::thread;
-use std::time::Duration;
 
 /// An identifier as it is written, and as the file holds it.
 pub const WRITTEN: &str = "00112233-4455-6677-8899-aabbccddeeff";
@@ -219,43 +216,12 @@ fn without_an_identifier_a_random_one_is_drawn_and_printed() {
     assert!(drawn[0] != drawn[1] && drawn[1] != drawn[2], "{drawn:?}");
 }
 
-/// Runs it with a full pipe as its output, so that it waits with what it announces; then changes bytes of the file and reads on.
-fn close_while_changing(sample: &Sample, at: usize, pause: Duration) -> (Option<i32>, String) {
-    let (mut reader, mut writer) = io::pipe().expect("a pipe");
-    writer.write_all(&[b' '; 65536]).expect("a full pipe");
-    let child = Command::new(PROGRAM)
-        .args(["close", &sample.path])
-        .stdout(writer)
-        .stderr(Stdio::piped())
-        .spawn()
-        .expect("the command");
-    thread::sleep(pause);
-    let file = File::options().write(true).open(&sample.path);
-    let changed = file.and_then(|file| file.write_all_at(b"changed", at as u64));
-    changed.expect("written");
-    io::copy(&mut reader, &mut io::sink()).expect("its output");
-    let ended = child.wait_with_output().expect("its end");
-    let errors = String::from_utf8_lossy(&ended.stderr).into_owned();
-    (ended.status.code(), errors)
-}
-
 #[test]
 fn a_file_that_changes_after_it_was_judged_is_not_written_to() {
     // the header that is not current, which no page that was only read holds; the current one; the log
     for place in [HEADERS[0], HEADERS[1], MIB] {
-        let at = place + 100;
-        // what is changed before the file is judged is judged: with a longer pause it is not
-        let seen = [100, 1000, 10_000].into_iter().any(|pause| {
-            let mut sample = Sample::pending();
-            let (status, errors) = close_while_changing(&sample, at, Duration::from_millis(pause));
-            let told = errors.contains("changed while it was read");
-            if told {
-                assert_eq!(status, Some(2));
-                sample.bytes[at..at + 7].copy_from_slice(b"changed");
-                sample.assert_unchanged();
-            }
-            told
-        });
-        assert!(seen, "a change at {at} was not seen");
+        let change = |file: &File| file.write_all_at(b"changed", place as u64 + 100);
+        let told = "changed while it was read";
+        change_when_judged(&["close"], &bytes(&sample_file()), change, told).assert_unchanged();
     }
 }

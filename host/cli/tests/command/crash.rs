@@ -20,33 +20,37 @@ fn images() -> [Pending; 2] {
     [sample_file(), rich(&small_blocks().0)]
 }
 
+/// The words that a file's name is put behind.
+const CLOSE: [&str; 3] = ["close", "--identifier", WRITTEN];
+
 /// The command with a library that counts its writes: `preload/writes.c` says what the variables do.
-struct Watched {
+pub struct Watched {
     folder: Folder,
     library: PathBuf,
 }
 
 impl Watched {
-    fn new() -> Watched {
+    pub fn new() -> Watched {
         let folder = folder("watched");
         let source = Path::new(env!("CARGO_MANIFEST_DIR")).join("tests/preload/writes.c");
         let library = compile_library(&folder, &source);
         Watched { folder, library }
     }
 
-    fn close(&self, sample: &Sample, variables: &[(&str, &str)]) -> Ran {
+    pub fn run(&self, words: &[&str], sample: &Sample, variables: &[(&str, &str)]) -> Ran {
         end(Command::new(PROGRAM)
-            .args(["close", &sample.path, "--identifier", WRITTEN])
+            .args(words)
+            .arg(&sample.path)
             .env("LD_PRELOAD", &self.library)
             .envs(variables.iter().copied()))
     }
 
     /// What an undisturbed run does to the file, in its order.
-    fn operations(&self, pending: &Pending) -> Vec<Operation> {
+    pub fn operations(&self, words: &[&str], pending: &Pending) -> Vec<Operation> {
         let sample = Sample::new(bytes(pending));
         let notes = self.folder.file("notes");
         let name = notes.to_str().expect("text");
-        self.close(&sample, &[("NOTE_IN", name)]).with(0);
+        self.run(words, &sample, &[("NOTE_IN", name)]).with(0);
         let text = fs::read_to_string(&notes).expect("what was noted");
         fs::remove_file(notes).expect("removed");
         text.lines().map(Operation::parse).collect()
@@ -54,7 +58,7 @@ impl Watched {
 }
 
 #[derive(Debug, PartialEq, Eq, Clone, Copy)]
-enum Operation {
+pub enum Operation {
     Length(usize),
     Write { at: usize, length: usize },
     Flush,
@@ -81,7 +85,7 @@ fn the_sectors_are_flushed_before_the_header_is_written() {
     let watched = Watched::new();
     // where the header lands that was not current
     for (pending, slot) in images().into_iter().zip(HEADERS) {
-        let operations = watched.operations(&pending);
+        let operations = watched.operations(&CLOSE, &pending);
         let flush = |operation: &Operation| *operation == Operation::Flush;
         let parts: Vec<&[Operation]> = operations.split(flush).collect();
         let [sectors, header, []] = parts[..] else {
@@ -107,7 +111,7 @@ fn the_sectors_are_flushed_before_the_header_is_written() {
 fn killed_at_any_write_it_can_be_run_again() {
     let watched = Watched::new();
     for pending in images() {
-        let writes = watched.operations(&pending);
+        let writes = watched.operations(&CLOSE, &pending);
         let writes = writes
             .iter()
             .filter(|o| matches!(o, Operation::Write { .. }));
@@ -120,7 +124,7 @@ fn killed_at_any_write_it_can_be_run_again() {
                 let sample = Sample::new(bytes(&pending));
                 let n = n.to_string();
                 let killed = [("KILL_AT_WRITE", &n[..]), ("KILL_KEEPING", keeping)];
-                let ran = watched.close(&sample, &killed);
+                let ran = watched.run(&CLOSE, &sample, &killed);
                 assert_eq!(ran.status, None, "write {n}: {ran:?}");
                 let left = Sample::new(sample.now());
                 let name = format!("write {n}, {keeping} bytes");
@@ -170,7 +174,7 @@ fn after_a_power_failure_it_can_be_run_again() {
     let watched = Watched::new();
     let mut random = Random::new(20_261_116);
     for pending in images() {
-        let operations = watched.operations(&pending);
+        let operations = watched.operations(&CLOSE, &pending);
         let expected = closed(&pending, STORED);
         for done in 0..=operations.len() {
             for _ in 0..20 {
@@ -202,7 +206,7 @@ fn a_disk_that_fails_is_told_of() {
         ("FAIL_AT_FLUSH", "2", perhaps),
     ] {
         let sample = Sample::new(bytes(&pending));
-        let ran = watched.close(&sample, &[(variable, n)]).with(2);
+        let ran = watched.run(&CLOSE, &sample, &[(variable, n)]).with(2);
         assert!(ran.errors.contains(told), "{variable} {n}: {ran:?}");
         assert!(ran.errors.contains("Input/output error"), "{ran:?}");
         assert!(!ran.text().contains("closed just now"), "{ran:?}");

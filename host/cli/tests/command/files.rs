@@ -35,6 +35,8 @@ fn files_that_cannot_be_read() {
         for words in [
             &["attach", path][..],
             &["attach", "--apply", path],
+            &["attach", "--pieces", path],
+            &["attach", "--apply", "--pieces", path],
             &["close", path],
             &["map", path],
             &["cat", path],
@@ -62,7 +64,11 @@ fn a_file_that_may_not_be_read_or_written() {
     let ask = |words: &[&str]| as_nobody(Command::new(PROGRAM).args(words));
     allow(0o444);
     ask(&["attach", file]).with(0);
-    for words in [&["attach", "--apply", file][..], &["close", file]] {
+    for words in [
+        &["attach", "--apply", file][..],
+        &["attach", "--apply", "--pieces", file],
+        &["close", file],
+    ] {
         let ran = ask(words).with(2);
         assert!(ran.errors.contains("Permission denied"), "{ran:?}");
     }
@@ -153,8 +159,10 @@ fn a_file_that_is_changed_while_it_is_read_does_no_harm() {
         for _ in 0..60 {
             ended.push(sample.run("attach", &[]));
         }
-        for _ in 0..20 {
-            ended.push(sample.run("attach", &["--apply"]));
+        for more in [&["--apply"][..], &["--pieces"], &["--apply", "--pieces"]] {
+            for _ in 0..20 {
+                ended.push(sample.run("attach", more));
+            }
         }
         done.store(true, Ordering::Relaxed);
         for ran in &ended {
@@ -162,9 +170,11 @@ fn a_file_that_is_changed_while_it_is_read_does_no_harm() {
             let told = ran.text() + &ran.errors;
             let expected = [
                 "size to charge: 64 MiB",
+                "size to charge: not known",
                 "refused: 5: ",
                 "refused: 8: ",
                 "changed while it was read",
+                "changed while its log was applied",
             ];
             assert!(expected.iter().any(|words| told.contains(words)), "{ran:?}");
         }

@@ -79,6 +79,35 @@ fn the_limit_is_the_users() {
 }
 
 #[test]
+fn in_pieces_sectors_are_counted_up_to_the_limit_before_anything_is_written() {
+    for more in [&["--pieces"][..], &["--apply", "--pieces"]] {
+        let sample = hostile(65536);
+        // without a limit this takes hours
+        let words = [&["60", PROGRAM, "attach", &sample.path], more].concat();
+        let ran = run("timeout", &words).with(4);
+        let told = "asks for at least 1,048,577 sectors to be written";
+        assert!(ran.errors.contains(told), "{ran:?}");
+        assert!(ran.bytes.is_empty(), "{ran:?}");
+        sample.assert_unchanged();
+        // 258 sectors, and 1 MiB of growth
+        let sample = Sample::pending();
+        for limit in ["0", "255", "256", "513"] {
+            let json = sample.json("attach", &[more, &["--max-sectors", limit]].concat(), 4);
+            json.assert_has(&[
+                ("error.kind", "\"too much work"),
+                ("error.sectors", "null"),
+                ("error.max_sectors", limit),
+            ]);
+            sample.assert_unchanged();
+        }
+        let refused = ["--max-sectors", "0", "--capacity", "0"];
+        sample.run("attach", &[more, &refused].concat()).with(1);
+        let allowed = ["--max-sectors", "514"];
+        sample.run("attach", &[more, &allowed].concat()).with(0);
+    }
+}
+
+#[test]
 fn growth_is_work_too() {
     let mut image = Image::new(3 * MIB, 3 * M, MIB, GUID);
     let mut entry = Entry::new(1, 0);
@@ -89,6 +118,7 @@ fn growth_is_work_too() {
     assert!(text.contains("refused: 8"), "{text}");
     let words = ["60", PROGRAM, "attach", &sample.path, "--capacity", "64T"];
     run("timeout", &words).with(4);
+    run("timeout", &[&words[..], &["--pieces"]].concat()).with(4);
 }
 
 #[test]
@@ -121,12 +151,30 @@ fn a_capacity_that_the_process_may_not_have() {
     file.expect("the file")
         .set_len(1 << 30)
         .expect("a long file");
-    let ran = limited(&["attach", &sample.path]).with(2);
+    let ran = limited(&["map", &sample.path]).with(2);
     assert!(
         ran.errors
             .contains("the file is longer than this process may have"),
         "{ran:?}"
     );
-    assert!(ran.errors.contains("--capacity"), "{ran:?}");
-    shrunvaki(&["attach", &sample.path]).with(0);
+    assert!(ran.errors.contains("in pieces"), "{ran:?}");
+    shrunvaki(&["map", &sample.path]).with(0);
+}
+
+#[test]
+fn in_pieces_next_to_no_memory_is_needed() {
+    let sample = Sample::pending();
+    let file = File::options().write(true).open(&sample.path);
+    file.expect("the file")
+        .set_len(1 << 30)
+        .expect("a long file");
+    let limited = |words: &[&str]| in_shell("ulimit -v 20000; exec \"$0\" \"$@\"", words);
+    let asked = limited(&["attach", &sample.path, "--pieces"]).with(0);
+    assert!(asked.errors.is_empty(), "{asked:?}");
+    // and unasked too, where the file cannot be mapped
+    let unasked = limited(&["attach", &sample.path]).with(0);
+    assert_eq!(unasked.text(), asked.text());
+    let told = "longer than this process may map, 1 GiB (1,073,741,824 bytes); the log's work is done in pieces, as with --pieces\n";
+    assert!(unasked.errors.ends_with(told), "{unasked:?}");
+    assert_eq!(unasked.errors.lines().count(), 1, "{unasked:?}");
 }

@@ -2,6 +2,7 @@
 mod apply;
 mod attach;
 mod cat;
+mod changing;
 mod close;
 mod crash;
 mod files;
@@ -9,5 +10,6 @@ mod limits;
 mod lookup;
 mod output;
 mod parent;
+mod pieces;
 mod sample;
 mod usage;

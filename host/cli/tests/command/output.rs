@@ -16,6 +16,7 @@ fn output_that_cannot_be_written() {
     for words in [
         &["demo"][..],
         &["attach", "--apply", &sample.path],
+        &["attach", "--apply", "--pieces", &sample.path],
         &["close", &sample.path],
     ] {
         let full = File::options().write(true).open("/dev/full");

@@ -7,7 +7,7 @@ fn misuse() {
     let sample = Sample::pending();
     let file = sample.path.as_str();
     let guid = "00112233-4455-6677-8899-aabbccddeeff";
-    let cases: [&[&str]; 37] = [
+    let cases: [&[&str]; 44] = [
         &[],
         &["attack", file],
         &["attach"],
@@ -45,6 +45,13 @@ fn misuse() {
         &["close", file, "--identifier", &format!("{{{guid}")],
         &["attach", file, "--identifier", guid],
         &["attach", file, "--apply", "--identifier", guid],
+        &["attach", file, "--pieces=yes"],
+        &["close", file, "--pieces"],
+        &["lookup", file, "0", "--pieces"],
+        &["map", file, "--pieces"],
+        &["parent", file, "--pieces"],
+        &["cat", file, "--pieces"],
+        &["demo", "--pieces"],
     ];
     for words in cases {
         let ran = shrunvaki(words).with(2);
@@ -83,6 +90,8 @@ fn help_and_version() {
         assert_eq!(shrunvaki(&["help", command]).with(0).text(), text);
         assert!(text.lines().all(|line| line.len() <= 80), "{text}");
     }
+    let attach = shrunvaki(&["attach", "--help"]).text();
+    assert!(attach.contains("\n  --pieces "), "{attach}");
     let close = shrunvaki(&["close", "--help"]).text();
     for words in ["--identifier", "--wait", "9 to 15", "23", "run again"] {
         assert!(close.contains(words), "{words}: {close}");

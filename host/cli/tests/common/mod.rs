@@ -67,7 +67,7 @@ pub fn assert_contents(disk: &Path, raw: &Path) {
 }
 
 /// Applies a file's log to a copy of it. Asserts that past the first MiB it is then qemu's file with the log applied, that the
-/// first MiB and the log are as they were, and that applying again changes nothing.
+/// first MiB and the log are as they were, that applying again changes nothing, and that in pieces it is the same.
 #[track_caller]
 pub fn assert_applied(folder: &Folder, pending: &Path, by_qemu: &Path) {
     let (once, twice) = (folder.file("applied"), folder.file("applied-twice"));
@@ -79,6 +79,10 @@ pub fn assert_applied(folder: &Folder, pending: &Path, by_qemu: &Path) {
     copy(&once, &twice);
     shrunvaki(&["attach", "--apply"], &twice).with(0);
     assert_same_files(&[], &twice, &once);
+    let in_pieces = folder.file("applied-in-pieces");
+    copy(pending, &in_pieces);
+    shrunvaki(&["attach", "--apply", "--pieces"], &in_pieces).with(0);
+    assert_same_files(&[], &in_pieces, &once);
 }
 
 /// Closes a file's log in a copy of it, which is the answer. Asserts that past the first MiB it is then qemu's file with the log
@@ -104,7 +108,13 @@ pub fn assert_refused(folder: &Folder, file: &Path, number: u64) {
     let asked = folder.file("refused");
     copy(file, &asked);
     assert_eq!(Answer::of(&asked).refusal(), Some(number));
-    for arguments in [&["attach", "--apply"][..], &["close"], &["map"], &["cat"]] {
+    for arguments in [
+        &["attach", "--apply"][..],
+        &["attach", "--apply", "--pieces"],
+        &["close"],
+        &["map"],
+        &["cat"],
+    ] {
         shrunvaki(arguments, &asked).with(1);
     }
     assert_same_files(&[], &asked, file);

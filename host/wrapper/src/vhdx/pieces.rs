@@ -1,8 +1,8 @@
 //! The log's work on a file that no buffer holds, in pieces of at most 64 KiB.
 //!
-//! [`plan`] lists what the log of a file would write, [`apply`] writes it. Both stand over [`Pieces`], which has no file: it says
-//! which bytes it wants next, or which it wants written, and is told that they are there. So it serves whatever a file is read
-//! through, and needs no lock: a file that changes between two pieces still gets answers or a refusal, and neither the first MiB
+//! [`plan`] lists what the log of a file would write, [`apply`] writes it, and [`drive`] leaves what is done with it to the caller.
+//! All stand over [`Pieces`], which has no file: it says which bytes it wants next, or which it wants written, and is told that they
+//! are there. So it serves whatever a file is read through, and needs no lock: a file that changes between two pieces still gets answers or a refusal, and neither the first MiB
 //! nor the log is ever written, nor anything past the final length.
 //!
 //! ```
@@ -300,18 +300,23 @@ pub fn apply<F: Read + Write + Seek>(
     Ok(applied)
 }
 
-/// What is not a read.
-enum Work<'a> {
+/// What the log's work asks for, but for reads.
+#[derive(Debug, PartialEq, Eq, Clone, Copy)]
+pub enum Work<'a> {
+    /// That the file is made longer, with zeros, to this length. Asked at most once, and before the first write.
     Grow(u64),
+    /// That a sector is written.
     Write(Sector<'a>),
 }
 
-fn drive<S: Read + Seek>(
+/// Reads what the log's work asks for, and leaves the rest of it to `work`, which ends it all by an error: what [`plan`] and
+/// [`apply`] stand over. Answers as they do.
+pub fn drive<S: Read + Seek, E: From<io::Error>>(
     source: &mut S,
     length: u64,
     capacity: u64,
-    mut work: impl FnMut(&mut S, Work<'_>) -> io::Result<()>,
-) -> io::Result<Result<Plan, Refusal>> {
+    mut work: impl FnMut(&mut S, Work<'_>) -> Result<(), E>,
+) -> Result<Result<Plan, Refusal>, E> {
     let mut pieces = Pieces::start(length, capacity);
     loop {
         match pieces.request {

@@ -1,8 +1,8 @@
 //! The drivers over files: what they list and write, and errors of the file.
-use crate::samples::{of_qemu, pending, refused};
 use shrunvaki::vhdx::pieces::{self, SectorKind};
 use shrunvaki::vhdx::{Image, Plan};
 use shrunvaki_testkit::command::{folder, write};
+use shrunvaki_testkit::files::{of_qemu, pending, refused};
 use shrunvaki_testkit::image::{self, Entry, GUID, MIB};
 use shrunvaki_testkit::model::{self, File};
 use shrunvaki_testkit::pending::{assert_same, data, pattern, zero};

@@ -1,8 +1,8 @@
 //! Files that do not change meanwhile: requests and end are the model's, and what they do to the file is what attach does.
-use crate::samples::{of_qemu, pending, refused};
 use shrunvaki_testkit::drawn::damage::Damage;
 use shrunvaki_testkit::drawn::rings::{crowd, empty, full, SECTORS};
 use shrunvaki_testkit::drawn::seeds;
+use shrunvaki_testkit::files::{of_qemu, pending, refused};
 use shrunvaki_testkit::image::{Entry, Image, GUID, HEADERS, MIB};
 use shrunvaki_testkit::model::{self, File};
 use shrunvaki_testkit::pending::{assert_same, data, pattern, zero};

@@ -1,6 +1,6 @@
 //! Pieces of another length than was asked for are not taken, and nothing comes after the end.
-use crate::samples::{of_qemu, pending, refused};
 use shrunvaki::vhdx::pieces::{Pieces, Request, SectorKind, LONGEST_PIECE};
+use shrunvaki_testkit::files::{of_qemu, pending, refused};
 use shrunvaki_testkit::image::SECTOR;
 use shrunvaki_testkit::model::{self, File};
 use shrunvaki_testkit::pieces::{read_at, End};

@@ -5,4 +5,3 @@ mod drivers;
 mod faithful;
 mod lengths;
 mod numbers;
-mod samples;

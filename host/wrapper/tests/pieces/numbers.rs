@@ -1,9 +1,9 @@
 //! Machines that are kept elsewhere between two requests, as they were or altered.
-use crate::samples::{pending, Sample};
 use shrunvaki::vhdx::pieces::{NoMachine, Pieces, Request, SectorKind, LONGEST_PIECE};
 use shrunvaki::vhdx::raw;
 use shrunvaki_testkit::drawn::fields::interesting;
 use shrunvaki_testkit::drawn::seeds;
+use shrunvaki_testkit::files::{pending, Sample};
 use shrunvaki_testkit::model::{self, File};
 use shrunvaki_testkit::pieces::{read_at, Answer, End, Machine, LONGEST};
 use shrunvaki_testkit::random::Random;
