@@ -1,14 +1,22 @@
 // The bytes of a file that are at hand: those that were read last, in a buffer of 64 KiB.
 use extent::Extent;
+use vhdx_replay::store;
 ghost use Prim.Native.Nat.{_+_, _≤_, _<_, _^_};
 ghost use mathlib.Core.Path.{_≡_};
 ghost use lib.ListN.{length as lengthOf};
 ghost use Rattle.list_writes.specs.Driver.{Within};
 
-// The first `count` bytes of the buffer are the file's from `at` on.
+// `lseek`'s word for the next byte that the file system keeps, and what it says where there is none.
+const SEEK_DATA: i32 = 3;
+
+const ENXIO: i32 = 6;
+
+// The first `count` bytes of the buffer are the file's from `at` on. Or the file has a hole of `hole` bytes there, and the buffer is
+// zeros.
 pub struct Window {
     pub at: u64,
     pub count: usize,
+    pub hole: u64,
 }
 
 // Where in the buffer it starts, or that it is not there whole.
@@ -18,7 +26,11 @@ pub enum Place {
 }
 
 pub fn empty() -> Window {
-    Window { at: 0, count: 0 }
+    Window {
+        at: 0,
+        count: 0,
+        hole: 0,
+    }
 }
 
 // A window in which what is wanted is whole, if it can be read.
@@ -28,9 +40,45 @@ pub fn moved(fd: i32, window: Window, wanted: Extent, bytes: &mut [u8; 65536]) -
         Place::Missing => {
             let least = short(wanted.length);
             let most = window.ahead(wanted.offset, least);
-            read(fd, wanted.offset, least, most, bytes)
+            if least < most {
+                beyond(fd, wanted.offset, least, most, bytes)
+            } else {
+                read(fd, wanted.offset, least, most, bytes)
+            }
         }
     }
+}
+
+// On a stretch that is read in order: a hole is not read at all.
+fn beyond(fd: i32, at: u64, least: usize, most: usize, bytes: &mut [u8; 65536]) -> Window
+    requires { ⌜ (least ≤ most) × (most ≤ 65536) ⌝ }
+{
+    let hole = hole_at(fd, at);
+    if hole < 65536 {
+        return read(fd, at, least, most, bytes);
+    }
+    store::zeros(bytes, 0, 65536);
+    Window { at, count: 0, hole }
+}
+
+// How many bytes from there on the file system keeps nothing of. A file reads as zeros there.
+fn hole_at(fd: i32, at: u64) -> u64 {
+    if 4611686018427387904 < at {
+        return 0;
+    }
+    let next = libc::lseek(fd, at as i64, SEEK_DATA);
+    if next >= 0 {
+        return behind(natural(next), at);
+    }
+    if os::errno() == ENXIO {
+        behind(natural(libc::lseek(fd, 0, libc::SEEK_END)), at)
+    } else {
+        0
+    }
+}
+
+fn behind(next: u64, at: u64) -> u64 {
+    if at < next { next - at } else { 0 }
 }
 
 impl Window {
@@ -44,6 +92,12 @@ impl Window {
             return Place::Missing;
         }
         let start = wanted.offset - self.at;
+        if start < self.hole {
+            if wanted.length <= short(self.hole - start) as u64 {
+                return Place::At(0);
+            }
+            return Place::Missing;
+        }
         let count = short(self.count as u64) as u64;
         if start <= count {
             if wanted.length <= count - start {
@@ -86,7 +140,7 @@ fn read(fd: i32, at: u64, least: usize, most: usize, bytes: &mut [u8; 65536]) ->
         return empty();
     }
     let count = fill(fd, at, least, most, bytes);
-    Window { at, count }
+    Window { at, count, hole: 0 }
 }
 
 fn fill(fd: i32, at: u64, least: usize, most: usize, bytes: &mut [u8]) -> usize
