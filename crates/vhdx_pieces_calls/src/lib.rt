@@ -137,5 +137,5 @@ fn answer(turn: Turn, machine: &mut [u64; 64]) -> Request
 fn kind_of(m: Machine) -> u64
     ensures { λ r. ⌜ r ≡ bit (isDataOf m) ⌝ }
 {
-    if vhdx_pieces::is_data(m) { 1 } else { 0 }
+    vhdx_slots::bit_of(vhdx_pieces::is_data(m))
 }
