@@ -108,7 +108,7 @@ impl Window {
     }
 
     // How many bytes to read, at least so many: where they follow the window directly, twice as many as it has. A long stretch is then
-    // read in few calls, and no more is read in vain than was wanted.
+    // read in few calls, and little is read in vain elsewhere.
     fn ahead(self, offset: u64, least: usize) -> usize
         requires { ⌜ least ≤ 65536 ⌝ }
         ensures { λ r. ⌜ (least ≤ r) × (r ≤ 65536) ⌝ }

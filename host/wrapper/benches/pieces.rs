@@ -1,9 +1,6 @@
 //! The log's work in pieces, for files of 1 TiB with logs of 64 MiB: the program that lists it, from its start to its end, and the
-//! wrapper's machine over a file, each in turn with the whole-buffer plan of the same file, which is mapped for it. Prints the
-//! ratios; exits with status 1 where one of the program's is above the limit.
-//!
-//! Of an empty log the plan looks at four bytes of each sector, and of a mapped file nothing else is read then, while the pieces hold
-//! all of the log. What it takes to read it in pieces is printed too.
+//! wrapper's machine over a file, each in turn with the whole-buffer plan of the same file, which is mapped for it, and the program
+//! with a plain reading of the log too. Prints the ratios; exits with status 1 where one of the program's is above its limit.
 use shrunvaki::vhdx::pieces::{self, LONGEST_PIECE};
 use shrunvaki::vhdx::{Image, Plan};
 use shrunvaki_testkit::image::MIB;
@@ -12,15 +9,30 @@ use shrunvaki_testkit::long_file::LongFile;
 use shrunvaki_testkit::long_log::{
     chain, empty, full_of_data, one_small_entry, LOG, MOST_DESCRIPTORS, SECTORS,
 };
-use shrunvaki_testkit::measure::{in_turn, time, InTurn};
+use shrunvaki_testkit::measure::{in_turn, InTurn};
 use shrunvaki_testkit::sample::TIB;
 use std::hint::black_box;
 use std::os::unix::fs::FileExt;
 use std::path::Path;
 use std::process::{Command, Stdio};
 
-const LIMIT: f64 = 3.0;
 const TURNS: usize = 11;
+
+/// What the program's time is held to.
+enum HeldTo {
+    Plan,
+    Reading,
+}
+
+impl HeldTo {
+    /// How many times as long the program may take.
+    fn limit(&self) -> f64 {
+        match self {
+            HeldTo::Plan => 3.0,
+            HeldTo::Reading => 1.5,
+        }
+    }
+}
 
 struct Case {
     name: &'static str,
@@ -28,6 +40,7 @@ struct Case {
     bytes: fn() -> Vec<u8>,
     /// How many sectors the log writes, none where it is refused.
     count: Option<usize>,
+    held_to: HeldTo,
 }
 
 const CASES: [Case; 7] = [
@@ -35,36 +48,44 @@ const CASES: [Case; 7] = [
         name: "16,384 entries of one sector, a descriptor each",
         bytes: || chain(1).buffer,
         count: Some(SECTORS),
+        held_to: HeldTo::Plan,
     },
     Case {
         name: "16,384 entries of one sector, full of descriptors",
         bytes: || chain(MOST_DESCRIPTORS).buffer,
         count: Some(SECTORS * MOST_DESCRIPTORS),
+        held_to: HeldTo::Plan,
     },
     Case {
         name: "one entry whose data sectors fill the log",
         bytes: || full_of_data(1).buffer,
         count: Some(SECTORS - 128),
+        held_to: HeldTo::Plan,
     },
     Case {
         name: "64 entries whose data sectors fill the log",
         bytes: || full_of_data(64).buffer,
         count: Some(SECTORS - 64 * 2),
+        held_to: HeldTo::Plan,
     },
     Case {
         name: "an empty log of zeros that were written",
         bytes: || empty().buffer,
         count: None,
+        // of a mapped file the plan touches one line of each page, while whoever reads copies all 64 MiB
+        held_to: HeldTo::Reading,
     },
     Case {
         name: "an empty log that is a hole of the file",
         bytes: || start_of(empty().buffer, MIB),
         count: None,
+        held_to: HeldTo::Plan,
     },
     Case {
         name: "one small entry before such a hole",
         bytes: || start_of(one_small_entry().buffer, 2 * MIB),
         count: Some(1),
+        held_to: HeldTo::Plan,
     },
 ];
 
@@ -114,9 +135,9 @@ fn lines(path: &Path) -> usize {
 }
 
 /// Prints the median times and the median of the ratios, which it returns.
-fn report(name: &str, taken: &InTurn) -> f64 {
+fn report(name: &str, yardstick: &str, taken: &InTurn) -> f64 {
     println!(
-        "  {name} {:.1} ms, plan {:.1} ms, ratio {:.2}",
+        "  {name} {:.1} ms, {yardstick} {:.1} ms, ratio {:.2}",
         taken.other.as_secs_f64() * 1e3,
         taken.one.as_secs_f64() * 1e3,
         taken.ratio
@@ -124,8 +145,8 @@ fn report(name: &str, taken: &InTurn) -> f64 {
     taken.ratio
 }
 
-/// The ratio of the program's time to the plan's.
-fn compare(case: &Case) -> f64 {
+/// Whether the program keeps to its limit.
+fn compare(case: &Case) -> bool {
     let long = LongFile::up_to(&(case.bytes)(), TIB);
     let path = long.path();
     println!("{}, in a file of {} bytes:", case.name, long.length);
@@ -143,20 +164,28 @@ fn compare(case: &Case) -> f64 {
     let machine = |_| {
         black_box(in_pieces(&long));
     };
+    let reading = |_| read_log(&long);
     let run = |_| {
         let status = program(&path).stdout(Stdio::null()).status();
         assert!(status.expect("the program").success());
     };
-    let reading = time(|| read_log(&long));
-    println!("  reading the log {:.1} ms", reading.as_secs_f64() * 1e3);
-    report("machine", &in_turn(TURNS, plan, machine));
-    report("program", &in_turn(TURNS, plan, run))
+    report("machine", "plan", &in_turn(TURNS, plan, machine));
+    let by_plan = report("program", "plan", &in_turn(TURNS, plan, run));
+    let by_reading = report("program", "reading", &in_turn(TURNS, reading, run));
+    let ratio = match case.held_to {
+        HeldTo::Plan => by_plan,
+        HeldTo::Reading => by_reading,
+    };
+    let limit = case.held_to.limit();
+    if ratio > limit {
+        println!("  above {limit}");
+    }
+    ratio <= limit
 }
 
 fn main() {
-    let most = CASES.iter().map(compare).fold(0.0, f64::max);
-    if most > LIMIT {
-        println!("above {LIMIT}");
+    let above = CASES.iter().filter(|case| !compare(case)).count();
+    if above > 0 {
         std::process::exit(1);
     }
 }

@@ -6,6 +6,7 @@ pub mod pieces;
 pub mod raw;
 mod refusal;
 mod ucs2;
+mod window;
 
 pub use facts::{Extent, Facts};
 pub use identifier::{identifier_from_text, identifier_text};

@@ -2,8 +2,8 @@
 //!
 //! [`plan`] lists what the log of a file would write, [`apply`] writes it, and [`drive`] leaves what is done with it to the caller.
 //! All stand over [`Pieces`], which has no file: it says which bytes it wants next, or which it wants written, and is told that they
-//! are there. So it serves whatever a file is read through, and needs no lock: a file that changes between two pieces still gets answers or a refusal, and neither the first MiB
-//! nor the log is ever written, nor anything past the final length.
+//! are there. So it serves whatever a file is read through, and needs no lock: a file that changes between two pieces still gets
+//! answers or a refusal, and neither the first MiB nor the log is ever written, nor anything past the final length.
 //!
 //! ```
 //! use shrunvaki::vhdx::pieces::{self, SectorKind};
@@ -33,6 +33,7 @@
 //! ```
 use super::image::NO_ANSWER;
 use super::raw::{self, Machine};
+use super::window::Window;
 use super::{Plan, Refusal};
 use std::error::Error;
 use std::fmt;
@@ -310,7 +311,7 @@ pub enum Work<'a> {
 }
 
 /// Reads what the log's work asks for, and leaves the rest of it to `work`, which ends it all by an error: what [`plan`] and
-/// [`apply`] stand over. Answers as they do.
+/// [`apply`] stand over. Answers as they do. A long stretch is read ahead, at most 64 KiB at once and nothing past `length`.
 pub fn drive<S: Read + Seek, E: From<io::Error>>(
     source: &mut S,
     length: u64,
@@ -318,11 +319,13 @@ pub fn drive<S: Read + Seek, E: From<io::Error>>(
     mut work: impl FnMut(&mut S, Work<'_>) -> Result<(), E>,
 ) -> Result<Result<Plan, Refusal>, E> {
     let mut pieces = Pieces::start(length, capacity);
+    // Never stale: the machine asks for bytes of the first MiB and of the log alone, and writes to neither (refusal 7, and the
+    // theorem AlwaysAnswers where the file changes meanwhile).
+    let mut window = Window::new(length);
     loop {
         match pieces.request {
             Request::Read { offset, length } => {
-                source.seek(SeekFrom::Start(offset))?;
-                source.read_exact(&mut pieces.piece[..length])?;
+                window.fill(&mut pieces.piece[..length], source, offset)?;
             }
             Request::Grow { length } => work(source, Work::Grow(length))?,
             Request::Write { offset, kind } => {

@@ -1,9 +1,9 @@
 //! The drivers over files: what they list and write, and errors of the file.
-use shrunvaki::vhdx::pieces::{self, SectorKind};
+use shrunvaki::vhdx::pieces::{self, Pieces, Request, SectorKind};
 use shrunvaki::vhdx::{Image, Plan};
 use shrunvaki_testkit::command::{folder, write};
 use shrunvaki_testkit::files::{of_qemu, pending, refused};
-use shrunvaki_testkit::image::{self, Entry, GUID, MIB};
+use shrunvaki_testkit::image::{self, Entry, GUID, MIB, SECTOR};
 use shrunvaki_testkit::model::{self, File};
 use shrunvaki_testkit::pending::{assert_same, data, pattern, zero};
 use shrunvaki_testkit::random::Random;
@@ -191,4 +191,133 @@ fn a_file_that_no_memory_holds() {
     assert_same(&sector(TIB + 4096), &pattern(1), "the last sector");
     assert_same(&sector(2 * M), &pattern(2), "the first");
     assert_eq!(listed(&file, length).expect("read").lines().count(), 4);
+}
+
+/// A source that counts what is read of it, which is nothing past a length.
+struct Counting<'a> {
+    bytes: Cursor<&'a [u8]>,
+    length: u64,
+    calls: usize,
+    read: usize,
+}
+
+impl Counting<'_> {
+    fn new(bytes: &[u8], length: u64) -> Counting<'_> {
+        Counting {
+            bytes: Cursor::new(bytes),
+            length,
+            calls: 0,
+            read: 0,
+        }
+    }
+}
+
+impl Read for Counting<'_> {
+    fn read(&mut self, buffer: &mut [u8]) -> io::Result<usize> {
+        assert!(self.bytes.position() + buffer.len() as u64 <= self.length);
+        let read = self.bytes.read(buffer)?;
+        self.calls += 1;
+        self.read += read;
+        Ok(read)
+    }
+}
+
+impl Seek for Counting<'_> {
+    fn seek(&mut self, to: SeekFrom) -> io::Result<u64> {
+        self.bytes.seek(to)
+    }
+}
+
+const LOG: usize = 16 * MIB;
+const SECTORS: usize = LOG / SECTOR;
+
+/// With entries of these lengths in sectors, one behind the other from the log's start on.
+fn with_entries(lengths: &[usize]) -> Vec<u8> {
+    let length = LOG + 2 * MIB;
+    let mut made = image::Image::new(length, length as u64, LOG, GUID);
+    let mut sector = 0;
+    for (i, sectors) in lengths.iter().enumerate() {
+        let mut entry = Entry::new(1 + i as u64, 0);
+        entry.descriptors = vec![data((LOG + MIB) as u64, pattern(i as u8)); sectors - 1];
+        made.entry(sector, &entry);
+        sector += sectors;
+    }
+    made.buffer
+}
+
+/// How many bytes the machine asks for.
+fn wanted(bytes: &[u8]) -> usize {
+    let mut wanted = 0;
+    let mut pieces = Pieces::start(bytes.len() as u64, 128 * TIB);
+    loop {
+        match pieces.request() {
+            Request::Read { offset, length } => {
+                wanted += length;
+                pieces.next(&bytes[offset as usize..][..length]);
+            }
+            Request::Grow { .. } | Request::Write { .. } => {
+                pieces.next(&[]);
+            }
+            Request::Done { .. } | Request::Refused(_) => return wanted,
+        }
+    }
+}
+
+#[test]
+fn long_stretches_are_read_in_few_calls() {
+    let empty = with_entries(&[]);
+    let length = empty.len() as u64;
+    let mut source = Counting::new(&empty, length);
+    listed(&mut source, length).expect("read");
+    assert!(source.calls <= SECTORS / 8, "{} calls", source.calls);
+    assert!(source.read <= wanted(&empty) + 65536, "{}", source.read);
+}
+
+#[test]
+fn little_is_read_in_vain() {
+    let mut random = Random::new(78);
+    let drawn = (0..SECTORS / 20).map(|_| 1 + random.below(20) as usize);
+    let mut logs = vec![
+        drawn.collect(),
+        // each behind what was read ahead for the one before
+        [1, 1, 2, 4, 8].into_iter().chain([16; 255]).collect(),
+    ];
+    logs.extend([2, 3, 4, 9, 16, 17, 64].map(|sectors| vec![sectors; SECTORS / sectors]));
+    for lengths in logs {
+        let mut bytes = with_entries(&lengths);
+        let length = bytes.len() as u64;
+        let compare = |bytes: &[u8]| {
+            let mut source = Counting::new(bytes, length);
+            let lines = listed(&mut source, length).expect("read");
+            let (read, wanted) = (source.read, wanted(bytes));
+            println!("{:?}: {read} bytes for {wanted}", &lengths[..6]);
+            assert!(read <= 3 * wanted, "{read} bytes for {wanted}");
+            lines.lines().count()
+        };
+        let count = lengths.iter().map(|sectors| sectors - 1).sum();
+        assert_eq!(compare(&bytes), count);
+        // with no entry whole, each is read to its end and left again
+        let mut end = MIB;
+        for sectors in &lengths {
+            end += sectors * SECTOR;
+            bytes[end - 1] ^= 1;
+        }
+        assert_eq!(compare(&bytes), 1, "refused");
+    }
+}
+
+#[test]
+fn a_source_that_ends_behind_its_log() {
+    // the empty half is one stretch up to the end
+    let whole = with_entries(&[3; SECTORS / 6]);
+    let length = whole.len() as u64;
+    let end = MIB + LOG;
+    let list = |source: &[u8], length| listed(&mut Counting::new(source, length), length);
+    let lines = list(&whole, length).expect("read");
+    // what would be read ahead is missing, but for a byte, or past the length
+    for (end, length) in [(end, length), (end + 1, length), (end, end as u64)] {
+        assert_eq!(list(&whole[..end], length).expect("read"), lines);
+    }
+    let error = list(&whole[..end - 1], length).expect_err("an end");
+    assert_eq!(error.kind(), ErrorKind::UnexpectedEof);
 }
