@@ -42,6 +42,6 @@ pub data Answers (n : ℕ) : ℕ → Turn → Type 0 where
 abbrev pub most : ℕ
 most = planMost + suc workMost
 
--- whatever is fed, it ends after at most so many requests, having asked for nothing else
+-- whatever is fed, it ends after at most so many requests, having asked for nothing else. Proved in proofs/Answering.antt
 abbrev pub AlwaysAnswers : Type 0
 AlwaysAnswers = (n capacity : ℕ) → n < 18446744073709551616 → Answers n most (started n capacity)

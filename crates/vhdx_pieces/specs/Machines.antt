@@ -1,4 +1,5 @@
--- The log's work in pieces: what a machine asks for, and what it does when that is done.
+-- The log's work in pieces (change request Q-13: "it says which bytes of the file it wants next or which it wants written, and is told
+-- they are there"): what a machine asks for, and what it does when that is done.
 -- Assumes nothing.
 use mathlib.Core.Bool.{Bool, false, cond}
 use mathlib.Core.List.{List}

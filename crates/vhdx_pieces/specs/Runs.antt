@@ -36,11 +36,12 @@ pub data Ends (f : List ℕ) : List ℕ → Turn → List Request → Result →
   grows : {p : List ℕ} {m : Machine} {rs : List Request} {x : Result} → ((p₂ : List ℕ) → Ends f p₂ (stepOf m p₂) rs x) → Ends f p (Grow m) (grow (growthOf m) ∷ rs) x
   writes : {p : List ℕ} {m : Machine} {rs : List Request} {x : Result} → ((p₂ : List ℕ) → Ends f p₂ (stepOf m p₂) rs x) → Ends f p (Write m) (write (writtenOf m p) ∷ rs) x
 
--- a buffer of the stated capacity that begins with the file
+-- a buffer of the stated capacity that begins with the file ("1 and 8 read a stated room in place of the buffer")
 unfoldable pub buffered : ℕ → List ℕ → List ℕ
 buffered capacity f = take capacity (f ++ replicate capacity 0)
 
--- the growth and the writes of a plan for a file of n bytes
+-- the growth and the writes of a plan for a file of n bytes ("Growth is one request for the final length, before any write, only
+-- where that is greater")
 abbrev pub requests : ℕ → Plan → List Request
 requests n (refused c) = []
 requests n (apply m ss) = cond (ltb n m) (grow m ∷ map write ss) (map write ss)
@@ -49,6 +50,9 @@ abbrev pub resultOf : Plan → Result
 resultOf (refused c) = refusal c
 resultOf (apply m ss) = finished m (length ss)
 
+-- The theorem (change request Q-13: "fed one file faithfully, it ends, having asked for the same growth and writes, bytes included, in
+-- the same order as the whole-buffer form, with the same refusals 1 to 8"), over the plan that attach follows. Proved in
+-- proofs/Faithfully.antt
 abbrev pub Faithful : Type 0
 Faithful =
     (f : List ℕ) (capacity : ℕ) (p : List ℕ) → Bytes f
