@@ -31,13 +31,13 @@ fn put(text: &mut [u8; 65536], used: usize, bytes: &[u8]) -> usize
     requires { ⌜ (used ≤ 65536) × (lengthOf (now bytes) ≤ 65536) ⌝ }
     ensures { λ r. ⌜ r ≤ 65536 ⌝ }
 {
-    let start = room(text, used, bytes.len());
+    let start = reserve(text, used, bytes.len());
     store::bytes(text, start, bytes);
     start + bytes.len()
 }
 
 // Where n bytes more go: what is there is printed first where they do not fit behind it.
-fn room(text: &[u8; 65536], used: usize, n: usize) -> usize
+fn reserve(text: &[u8; 65536], used: usize, n: usize) -> usize
     requires { ⌜ (used ≤ 65536) × (n ≤ 65536) ⌝ }
     ensures { λ r. ⌜ r + n ≤ 65536 ⌝ }
 {

@@ -1,14 +1,13 @@
 -- Whatever is fed, the machine ends, asks for nothing that it must not, and writes what it planned or refuses.
 -- Assumes nothing.
-use mathlib.Core.Path.{_≡_, refl, sym, ap, _∙_, subst}
+use mathlib.Core.Path.{_≡_, refl, sym, subst}
 use mathlib.Core.Bool.{Bool, true, false, cond}
-use mathlib.Core.List.{List, []}
-use Prim.Native.Nat.{ℕ, zero, suc, _+_, _-_, _*_, _/_, _%_, _≤_, _<_}
+use mathlib.Core.List.{[]}
+use Prim.Native.Nat.{ℕ, zero, suc, _+_, _-_, _/_, _≤_, _<_}
 use native.Mathlib.Nat.{mod-lt}
 use native.Mathlib.Omega.{arith}
 use lib.Dec.{ltb, lit≤}
 use borrow.Author.Tests.{ne-eqb, lt-ltb, ltb-true, ltb-false}
-use Rattle.decision.specs.Refusal.{check}
 use Rattle.vhdx_pieces_plan.specs.declared.Order.{Order}
 use Rattle.vhdx_pieces_plan.specs.declared.Outcome.{Outcome}
 use Rattle.vhdx_pieces_plan.specs.declared.Outcome.the-variants as outcome
@@ -27,9 +26,8 @@ use Rattle.vhdx_pieces_walk.specs.declared.Step as walk
 use Rattle.vhdx_pieces_walk.specs.declared.Step.the-variants as walkStep
 use Rattle.vhdx_pieces_walk.specs.Walking as walking
 use Rattle.vhdx_pieces_walk.proofs.Allowed.{writes-apart}
-use Rattle.vhdx_pieces_walk.proofs.Advancing.{walk-advances, walk-starts}
+use Rattle.vhdx_pieces_walk.proofs.Advancing.{walk-advances}
 use Rattle.vhdx_pieces.specs.declared.Machine.the-variants.{Planning, Growing, Reading, Writing}
-use Rattle.vhdx_pieces.specs.declared.Turn.{Turn}
 use Rattle.vhdx_pieces.specs.declared.Turn.the-variants.{Read, Grow}
 use Rattle.vhdx_pieces.specs.Machines.{boundsOf, walked, walkFrom, ordered, planned, stepOf, workMost}
 use Rattle.vhdx_pieces.specs.Fed as fed

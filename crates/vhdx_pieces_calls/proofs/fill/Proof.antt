@@ -1,6 +1,6 @@
 -- `vhdx_pieces_calls::fill` meets its contract.
 -- Assumes nothing.
-use mathlib.Core.Path.{_≡_, sym, ap, _∙_}
+use mathlib.Core.Path.{sym, ap, _∙_}
 use mathlib.Core.List.{List}
 use Prim.Native.Nat.{ℕ}
 use Rattle.vhdx_replay.specs.Buffer.{put}

@@ -1,6 +1,6 @@
 -- `vhdx_pieces_calls::next` meets its contract.
 -- Assumes nothing.
-use mathlib.Core.Path.{_≡_, sym, ap, _∙_, subst}
+use mathlib.Core.Path.{sym, ap, _∙_, subst}
 use Rattle.vhdx_pieces.specs.declared.Turn.{Turn}
 use Rattle.vhdx_pieces_slots.specs.declared.Loaded.{Loaded}
 use Rattle.vhdx_pieces_slots.specs.Loading.{Sound}

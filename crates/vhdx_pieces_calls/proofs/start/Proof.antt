@@ -1,6 +1,6 @@
 -- `vhdx_pieces_calls::start` meets its contract.
 -- Assumes nothing.
-use mathlib.Core.Path.{_≡_, sym, ap, _∙_}
+use mathlib.Core.Path.{ap, _∙_}
 use Rattle.vhdx_pieces_calls.specs.Calls.{requestOf, numbersOf}
 use borrow.Author.Needs.{needs}
 use Rattle.vhdx_pieces_calls.proofs.start.Statement.{statement}

@@ -8,7 +8,7 @@ use shrunvaki_testkit::model::{plan_of, File, Plan};
 use shrunvaki_testkit::pieces::{assert_as_model, feed, read_at, Course, End, Feeder, Request};
 use shrunvaki_testkit::random::Random;
 
-const CASES: u64 = 1_500;
+const CASES: u64 = 2_000;
 
 /// How runs ended whose file changed.
 #[derive(Default, Debug)]
@@ -167,7 +167,7 @@ fn files_that_change_at_any_time() {
     let (met, all) = runs(false);
     if all {
         let least = met.done.min(met.refused_early).min(met.refused_late);
-        assert!(least >= CASES / 100, "{met:?}");
+        assert!(least >= 30, "{met:?}");
     }
 }
 
