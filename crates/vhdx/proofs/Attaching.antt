@@ -16,8 +16,8 @@ use Rattle.vhdx_tables.specs.Tables.{tables, reading}
 use Rattle.vhdx_log.specs.declared.Work.{Work}
 use Rattle.vhdx_log.specs.Work.{Plan, refused, apply, count}
 use Rattle.vhdx_log.specs.Plan.{plan}
-use Rattle.vhdx_replay.specs.Steps.{File, runs, steps}
-use Rattle.vhdx_replay.specs.Calls.{file}
+use Rattle.vhdx_steps.specs.Steps.{File, runs, steps}
+use Rattle.vhdx_steps.specs.Calls.{file}
 use Rattle.vhdx_replay.specs.Planned.{logExtent, Planned}
 use Rattle.vhdx_replay.proofs.Applying.{planned, header, here, plan-is, known, extent-is}
 use Rattle.vhdx_replay.proofs.Done.{done-size, holds-first, fits, done, same-buffer, same-start}

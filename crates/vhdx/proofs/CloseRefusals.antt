@@ -17,12 +17,12 @@ use Rattle.vhdx_header.specs.Current.{vhdxfile, headerAt, currentOffset, readHe
 use Rattle.vhdx_header.proofs.Laws.{readAt, by-offset, passed, tests}
 use Rattle.vhdx_walk.specs.Entries.{Sector}
 use Rattle.vhdx_log.specs.Work.{Plan, refused, apply}
-use Rattle.vhdx_replay.specs.Steps.{File}
-use Rattle.vhdx_replay.specs.Calls.{planOf}
-use Rattle.vhdx_replay.proofs.Reading.{header-of}
+use Rattle.vhdx_steps.specs.Steps.{File}
+use Rattle.vhdx_steps.specs.Calls.{planOf}
+use Rattle.vhdx_steps.proofs.Reading.{header-of}
 use Rattle.vhdx_rewrite.specs.Rewrite.{greatest}
-use Rattle.vhdx_close.specs.Close.{headerSector, withHeader, closing, closePlan}
-use Rattle.vhdx_close.proofs.Safety.{refused-either}
+use Rattle.vhdx_close_steps.specs.Close.{headerSector, withHeader, closing, closePlan}
+use Rattle.vhdx_close_steps.proofs.Safety.{refused-either}
 use Rattle.vhdx.specs.Refusals.{Row, firstOf, ofSome, headerIn, row23, rows, firstRow, refusalOfPlan, firstCloseRow, CloseByTheTable}
 use Rattle.vhdx.proofs.Refusals.{above, by-the-table}
 

@@ -22,11 +22,11 @@ use Rattle.vhdx_tables.specs.Tables.{factsOf, parentRule, judged, withRegions, 
 use Rattle.vhdx_log.specs.declared.Work.{Work}
 use Rattle.vhdx_log.specs.Work.{Plan, refused, apply, count}
 use Rattle.vhdx_log.specs.Plan.{plan}
-use Rattle.vhdx_replay.specs.Buffer.{zeroed}
-use Rattle.vhdx_replay.specs.Steps.{File, runs, steps}
-use Rattle.vhdx_replay.specs.Calls.{file, planOf}
+use Rattle.vhdx_steps.specs.Buffer.{zeroed}
+use Rattle.vhdx_steps.specs.Steps.{File, runs, steps}
+use Rattle.vhdx_steps.specs.Calls.{file, planOf}
 use Rattle.vhdx_replay.specs.Planned.{logExtent, Planned as WorkPlanned}
-use Rattle.vhdx_replay.proofs.Every.{All}
+use Rattle.vhdx_steps.proofs.Every.{All}
 use Rattle.vhdx.specs.declared.Planned.{Planned}
 use Rattle.vhdx.specs.Attach.{imageOf, afterAttach, read, answerBy, attachAnswer}
 use Rattle.vhdx.specs.Plan.{plannedBy, planAnswer, foretold, AsPlanned, Foretells}

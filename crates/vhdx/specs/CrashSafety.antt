@@ -1,11 +1,16 @@
 -- Demand 3: after any list of attaches and steps, each run to its end or interrupted, one undisturbed attach gives what an attach of
--- the original gives, and nothing else was touched on the way. `CrashSafe` is the claim, proved in proofs/CrashSafety.antt; it is
--- about the definitions that the contracts of `attach` and `step` cite (`RunToTheEnd`).
+-- the original gives, and nothing else was touched on the way. `CrashSafe` is the claim, as document 01 words it; `PowerSafe` says the
+-- same of power failures, and `CrashSafe` follows from it, since every call leaves what a power failure may leave. Both are proved in
+-- proofs/CrashSafety.antt, and are about the definitions that the contracts of `attach` and `step` cite (`RunToTheEnd`).
 --
 -- What an interrupted call leaves is defined in vhdx_replay, specs/Steps.antt (`Ran`): some first steps are whole, and the next is not
 -- begun or torn. That a call which really stops leaves one of these states rests on two things that the code shows and no contract
 -- says: growth writes upward from the given length (`store::zeros`), and the write of a sector stores only inside it
 -- (`sector::write`).
+--
+-- What a power failure leaves is defined there too, specs/Failures.antt (`Lost`). That it leaves no more than this rests on the disk and
+-- the file system: a write damages nothing outside its 4,096 bytes; a file that was made longer reads as zeros where nothing was
+-- written; and it does not become shorter than at its last flush.
 -- Assumes nothing.
 use mathlib.Core.List.{List}
 use mathlib.Core.Logic.{_↔_}
@@ -16,9 +21,10 @@ use lib.ListN.{length, take, getD}
 use Rattle.extent.specs.Extent.{part}
 use Rattle.vhdx_header.specs.Current.{firstMiB}
 use Rattle.vhdx_walk.specs.Entries.{Sector}
-use Rattle.vhdx_log.specs.Work.{Plan, refused, apply, sectorsPlanned}
-use Rattle.vhdx_replay.specs.Steps.{File, Named}
-use Rattle.vhdx_replay.specs.Calls.{planOf, Call, Calls}
+use Rattle.vhdx_log.specs.Work.{apply, sectorsPlanned}
+use Rattle.vhdx_steps.specs.Steps.{File, Named}
+use Rattle.vhdx_steps.specs.Calls.{planOf, finalLengthOf, Call, Calls}
+use Rattle.vhdx_steps.specs.Failures.{History}
 use Rattle.vhdx_replay.specs.Planned.{logExtent}
 use Rattle.vhdx.specs.Attach.{afterAttach, attachAnswer}
 use Rattle.vhdx.specs.Step.{afterStep}
@@ -32,10 +38,8 @@ Applicable o = firstRow o ≡ none
 abbrev pub PlannedExactlyThen : Type 0
 PlannedExactlyThen = (f : File) → ((m : ℕ) × (ss : List Sector) × (planOf f ≡ apply m ss)) ↔ Applicable f
 
--- what holds of the file f that a list of calls left of the original o
+-- what holds of the file f that calls left of the original o
 pub record Restarts (o f : File) : Type 0 where
-  -- "in the same room"
-  pub same-capacity : length (f .buffer) ≡ length (o .buffer)
   -- "After every such list, one more attach, undisturbed, gives exactly what by document 01 an attach of the original in that room
   -- gives: the same length,"
   pub same-length : attachAnswer f .length ≡ attachAnswer o .length
@@ -56,21 +60,21 @@ pub record Restarts (o f : File) : Type 0 where
 
 -- "Take any file whose log can be applied in the room we lend, and any list of attaches and single steps on it, in whatever order,
 -- refused ones included, each run to its end or cut. The first gets the file as it came. Each later one gets the file and the length
--- that the one before left"
+-- that the one before left, in the same room"
 abbrev pub CrashSafe : Type 0
-CrashSafe = (o f : File) → Applicable o → Calls o f → Restarts o f
+CrashSafe = (o f : File) → Applicable o → Calls o f → (length (f .buffer) ≡ length (o .buffer)) × Restarts o f
+
+-- a call may also be lost in a power failure, which takes back, whole or in part, every call since the last flush; and a later one may
+-- be lent another buffer, which holds the final length
+abbrev pub PowerSafe : Type 0
+PowerSafe = (o d f : File) → Applicable o → History o d f → Restarts o f
 
 -- a call that is run to its end, as the contracts of `attach` and `step` fix it, is one of those that a list may have
 abbrev pub RunToTheEnd : Type 0
 RunToTheEnd = (f : File) → Call f (afterAttach f) × ((k : ℕ) → Call f (afterStep k f))
 
--- the length that the log's work leads to, at 1 to 8 the given one
-abbrev pub lengthAfter : Plan → ℕ → ℕ
-lengthAfter (refused c) n = n
-lengthAfter (apply m ss) n = m
-
 -- "No call run to its end changes bytes past the final length."
 abbrev pub NothingBeyond : Type 0
 NothingBeyond =
-    (f : File) (i : ℕ) → lengthAfter (planOf f) (f .size) ≤ i
+    (f : File) (i : ℕ) → finalLengthOf f ≤ i
     → (getD (afterAttach f .buffer) i 0 ≡ getD (f .buffer) i 0) × ((k : ℕ) → getD (afterStep k f .buffer) i 0 ≡ getD (f .buffer) i 0)

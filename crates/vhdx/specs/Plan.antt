@@ -9,10 +9,10 @@ use Prim.Native.Nat.{ℕ}
 use lib.Dec.{leb}
 use lib.ListN.{length}
 use Rattle.vhdx_log.specs.Work.{Plan, refused, apply}
-use Rattle.vhdx_replay.specs.Steps.{File}
-use Rattle.vhdx_replay.specs.Calls.{planOf}
-use Rattle.vhdx_close.specs.declared.Closed.{Closed}
-use Rattle.vhdx_close.specs.Close.{closeAnswer}
+use Rattle.vhdx_steps.specs.Steps.{File}
+use Rattle.vhdx_steps.specs.Calls.{planOf}
+use Rattle.vhdx_close_steps.specs.declared.Closed.{Closed}
+use Rattle.vhdx_close_steps.specs.Close.{closeAnswer}
 use Rattle.vhdx.specs.declared.Attached.{Attached}
 use Rattle.vhdx.specs.declared.Planned.{Planned}
 use Rattle.vhdx.specs.Attach.{attachAnswer}

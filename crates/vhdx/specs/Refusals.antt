@@ -20,10 +20,10 @@ use Rattle.vhdx_walk.specs.Entries.{Entries, head, allDescriptors, sectors, len
 use Rattle.vhdx_walk.specs.Bytes.{entriesFrom}
 use Rattle.vhdx_log.specs.Work.{finalLength, someLies, Plan, refused, apply}
 use Rattle.vhdx_log.specs.Plan.{logBytes, extentOf}
-use Rattle.vhdx_replay.specs.Steps.{File}
-use Rattle.vhdx_replay.specs.Calls.{planOf}
+use Rattle.vhdx_steps.specs.Steps.{File}
+use Rattle.vhdx_steps.specs.Calls.{planOf}
 use Rattle.vhdx_rewrite.specs.Rewrite.{greatest}
-use Rattle.vhdx_close.specs.Close.{closePlan}
+use Rattle.vhdx_close_steps.specs.Close.{closePlan}
 
 pub record Row : Type 0 where
   pub number : ℕ
@@ -49,9 +49,9 @@ unfoldable pub entriesOf : File → Header → Sequence → Entries
 entriesOf f h q = entriesFrom (logBytes h (f .buffer)) (q .start) (q .more)
 
 -- the final length; without a sequence the given one
-abbrev pub finalOf : File → Header → Option Sequence → ℕ
-finalOf f h none = f .size
-finalOf f h (some q) = finalLength (entriesOf f h q) (f .size)
+abbrev pub finalLengthOf : File → Header → Option Sequence → ℕ
+finalLengthOf f h none = f .size
+finalLengthOf f h (some q) = finalLength (entriesOf f h q) (f .size)
 
 -- a test of what may not be there: it does not apply then
 abbrev pub ofSome : {A : Type 0} → Option A → (A → Bool) → Bool
@@ -99,7 +99,7 @@ unfoldable pub row8 : Option ℕ → File → Bool
 row8 c f =
     ofSome c
     (λ at.
-    let final = finalOf f (headerIn f at) (activeOf f (headerIn f at)) in
+    let final = finalLengthOf f (headerIn f at) (activeOf f (headerIn f at)) in
     ltb (length (f .buffer)) final || ltb lengthLimit final)
 
 abbrev pub rows : Option ℕ → File → List Row

@@ -2,18 +2,18 @@
 // that, lookup, parent key. None has a `requires`: a caller may hand in any buffer, length, step, identifier, sector, facts and key.
 // Attach, close and their steps write, and write through `vhdx_replay::store` alone.
 use extent::Extent;
-use vhdx_close::Closed;
+use vhdx_close_steps::Closed;
 use vhdx_facts::Facts;
 use vhdx_log::Work;
-use vhdx_replay::Stepped;
+use vhdx_steps::Stepped;
 ghost use mathlib.Core.Path.{_≡_};
 ghost use Prim.Native.Nat.{_≤_};
 ghost use lib.ListN.{length as lengthOf, take};
 ghost use Rattle.extent.specs.Extent.{MiB, part as partOf, onward};
-ghost use Rattle.vhdx_close.specs.Close.{afterClose, closeAnswer, afterCloseStep, closeStepAnswer};
+ghost use Rattle.vhdx_close_steps.specs.Close.{afterClose, closeAnswer, afterCloseStep, closeStepAnswer};
 ghost use Rattle.vhdx_map.specs.Lookup.{lookup as lookupOf, outcome};
 ghost use Rattle.vhdx_parent.specs.Key.{keyExtent};
-ghost use Rattle.vhdx_replay.specs.Calls.{file};
+ghost use Rattle.vhdx_steps.specs.Calls.{file};
 ghost use Rattle.vhdx_tables.specs.Tables.{tables, reading};
 ghost use Rattle.vhdx.specs.Attach.{afterAttach, told, attachAnswer};
 ghost use Rattle.vhdx.specs.Plan.{planAnswer};

@@ -16,14 +16,14 @@ use Rattle.vhdx_header.proofs.Standing.{standing}
 use Rattle.vhdx_walk.specs.Entries.{Sector}
 use Rattle.vhdx_log.specs.Work.{Plan, refused, apply, count}
 use Rattle.vhdx_log.specs.Plan.{plan}
-use Rattle.vhdx_replay.specs.Buffer.{put}
-use Rattle.vhdx_replay.specs.Steps.{Step, grow, write, run, runs, end, steps, admitted, chosen, stepsOf, single}
-use Rattle.vhdx_replay.specs.Calls.{file}
-use Rattle.vhdx_close.specs.declared.Closed.{Closed}
-use Rattle.vhdx_replay.specs.declared.Stepped.{Stepped}
+use Rattle.vhdx_steps.specs.Buffer.{put}
+use Rattle.vhdx_steps.specs.Steps.{Step, grow, write, run, runs, end, steps, admitted, chosen, stepsOf, single}
+use Rattle.vhdx_steps.specs.Calls.{file}
+use Rattle.vhdx_close_steps.specs.declared.Closed.{Closed}
+use Rattle.vhdx_steps.specs.declared.Stepped.{Stepped}
 use Rattle.vhdx_close.specs.declared.Job.{Job}
 use Rattle.vhdx_rewrite.specs.Rewrite.{closedHeader}
-use Rattle.vhdx_close.specs.Close.{closePlan, afterClose, afterCloseStep, closedBy, closeAnswer, closeStepAnswer}
+use Rattle.vhdx_close_steps.specs.Close.{closePlan, afterClose, afterCloseStep, closedBy, closeAnswer, closeStepAnswer}
 use Rattle.vhdx_rewrite.specs.Writing.{headerWritten}
 use Rattle.vhdx_close.specs.Deciding.{Doable}
 use Rattle.vhdx_replay.proofs.Done.{written-size, admitted-size}

@@ -1,4 +1,1 @@
-pub mod Close
 pub mod Deciding
-pub mod Calls
-pub mod Safety

@@ -1,26 +1,18 @@
 // Closing a log for good (change request Q-6): the log's work as attach does it, then the header that is not current rewritten.
 use extent::Extent;
+use vhdx_close_steps::Closed;
 use vhdx_header::Header;
 use vhdx_log::Work;
-use vhdx_replay::Stepped;
+use vhdx_steps::Stepped;
 ghost use mathlib.Core.Path.{_≡_};
 ghost use Prim.Native.Nat.{_+_};
 ghost use Rattle.decision.specs.Refusal.{refusalOf};
 ghost use Rattle.vhdx_header.specs.declared.Answer.the-variants.{Current};
 ghost use Rattle.vhdx_header.specs.Current.{currentHeader};
-ghost use Rattle.vhdx_replay.specs.Calls.{file};
-ghost use Rattle.vhdx_replay.specs.Steps.{chosen};
-ghost use Rattle.vhdx_close.specs.Close.{closePlan, afterClose, closeAnswer, afterCloseStep, closeStepAnswer};
+ghost use Rattle.vhdx_steps.specs.Calls.{file};
+ghost use Rattle.vhdx_steps.specs.Steps.{chosen};
+ghost use Rattle.vhdx_close_steps.specs.Close.{closePlan, afterClose, closeAnswer, afterCloseStep, closeStepAnswer};
 ghost use Rattle.vhdx_close.specs.Deciding.{endingOf, Decided, Doable};
-
-pub struct Closed {
-    // the refusal's number, or 0
-    pub refusal: u64,
-    // of the image as closing leaves it
-    pub length: u64,
-    // how many sectors the log's replay wrote, the header not counted
-    pub count: u64,
-}
 
 // The log's work, and whether the header is written behind it.
 pub struct Job {

@@ -1,4 +1,4 @@
--- A plan is made again from any buffer of the same length with the same first MiB and the same log, at any length from the
+-- A plan is made again from any buffer that holds the final length, with the same first MiB and the same log, at any length from the
 -- image's to the final one: what replay needs, since it grows the image and writes neither there.
 -- Assumes nothing.
 use mathlib.Core.Path.{_≡_, refl, ap, _∙_}
@@ -33,68 +33,59 @@ passed false c p h = let z : _≡_ {A = ℕ} 0 1 = cc in absurd (omega arith)
 final-is : {a m : ℕ} {ss tt : List Sector} → apply a ss ≡ apply m tt → a ≡ m
 final-is h = cc
 
--- what 8 says of a plan
-record Within (capacity final m : ℕ) : Type 0 where
-  same : final ≡ m
-  fits : m ≤ capacity
-  again : (leb final capacity && leb final lengthLimit) ≡ true
+module _ (capacity : ℕ) {n n′ m capacity′ : ℕ} {ss : List Sector} (longer : n ≤ n′) (below : n′ ≤ m) (fits : m ≤ capacity′) where
+  -- what 8 says of a plan, and of any capacity that holds the final length
+  final : (x : ℕ) (l : List Sector) → applyWithin capacity x l ≡ apply m ss → x ≡ m
+  final x l h = final-is (passed (leb x capacity && leb x lengthLimit) 8 (apply x l) h .1)
 
-within : (capacity final : ℕ) (l : List Sector) {m : ℕ} {ss : List Sector} → applyWithin capacity final l ≡ apply m ss → Within capacity final m
-within capacity final l h =
-    let p = passed (leb final capacity && leb final lengthLimit) 8 (apply final l) h in
-    let e = final-is (p .1) in
-    let b : final ≤ capacity = leb-true final capacity (and-eq-true-iff (leb final capacity) (leb final lengthLimit) .0 (p .0) .0) in
-    record { same = e; fits = omega arith; again = p .0 }
+  within-again : (x : ℕ) (l : List Sector) → applyWithin capacity x l ≡ apply m ss → applyWithin capacity′ x l ≡ apply m ss
+  within-again x l h =
+      let p = passed (leb x capacity && leb x lengthLimit) 8 (apply x l) h in
+      let limit : leb x lengthLimit ≡ true = and-eq-true-iff (leb x capacity) (leb x lengthLimit) .0 (p .0) .1 in
+      ap (λ (t : Bool). check t (refused 8) (apply x l))
+      (and-eq-true-iff (leb x capacity′) (leb x lengthLimit) .1 (le-leb x capacity′ (omega (arith, final x l h)), limit))
+      ∙ p .1
 
-module _ {n n′ m capacity : ℕ} {ss : List Sector} (longer : n ≤ n′) (below : n′ ≤ m) where
-  work-again : (e : Extent) (es : Entries) → work e es n capacity ≡ apply m ss → (work e es n′ capacity ≡ apply m ss) × (m ≤ capacity)
+  work-again : (e : Extent) (es : Entries) → work e es n capacity ≡ apply m ss → work e es n′ capacity′ ≡ apply m ss
   unfolding work
   work-again e es h =
       let ds = sectors (allDescriptors es) in
       let a = passed (leb (head es .flushed) n) 6 (check (not (someLies e ds)) (refused 7) (applyWithin capacity (finalLength es n) ds)) h in
       let b = passed (not (someLies e ds)) 7 (applyWithin capacity (finalLength es n) ds) (a .1) in
-      let w = within capacity (finalLength es n) ds (b .1) in
       let f : head es .flushed ≤ n = leb-true (head es .flushed) n (a .0) in
-      let l : finalLength es n′ ≡ finalLength es n = omega (arith, w .same) in (
-        ap (λ (t : Bool). check t (refused 6) (check (not (someLies e ds)) (refused 7) (applyWithin capacity (finalLength es n′) ds))) (le-leb (head es .flushed) n′ (omega arith))
-            ∙ ap (λ (t : Bool). check t (refused 7) (applyWithin capacity (finalLength es n′) ds)) (b .0)
-            ∙ ap (λ (x : ℕ). applyWithin capacity x ds) l ∙ b .1,
-        w .fits,
-      )
+      let l : finalLength es n′ ≡ finalLength es n = omega (arith, final (finalLength es n) ds (b .1)) in
+      ap (λ (t : Bool). check t (refused 6) (check (not (someLies e ds)) (refused 7) (applyWithin capacity′ (finalLength es n′) ds))) (le-leb (head es .flushed) n′ (omega arith))
+      ∙ ap (λ (t : Bool). check t (refused 7) (applyWithin capacity′ (finalLength es n′) ds)) (b .0)
+      ∙ ap (λ (x : ℕ). applyWithin capacity′ x ds) l
+      ∙ within-again (finalLength es n) ds (b .1)
 
-  sequence-again : (e : Extent) (log : List ℕ) (q : Option Sequence) → planSequence e log n capacity q ≡ apply m ss → (planSequence e log n′ capacity q ≡ apply m ss) × (m ≤ capacity)
+  sequence-again : (e : Extent) (log : List ℕ) (q : Option Sequence) → planSequence e log n capacity q ≡ apply m ss → planSequence e log n′ capacity′ q ≡ apply m ss
   unfolding planSequence
   sequence-again e log none h = let z : _≡_ {A = ℕ} 0 1 = cc in absurd (omega arith)
   sequence-again e log (some q) h = work-again e (entriesFrom log (q .start) (q .more)) h
 
-  log-again : (h : Header) (log : List ℕ) → planLog h log n capacity ≡ apply m ss → (planLog h log n′ capacity ≡ apply m ss) × (m ≤ capacity)
+  log-again : (h : Header) (log : List ℕ) → planLog h log n capacity ≡ apply m ss → planLog h log n′ capacity′ ≡ apply m ss
   unfolding planLog
   log-again h log e = go (eqb (number (h .«log_guid»)) 0) e
     where
       go : (t : Bool) → cond t (applyWithin capacity n []) (planSequence (extentOf h) log n capacity (activeSequence log (h .«log_guid»))) ≡ apply m ss
-          → (cond t (applyWithin capacity n′ []) (planSequence (extentOf h) log n′ capacity (activeSequence log (h .«log_guid»))) ≡ apply m ss) × (m ≤ capacity)
+          → cond t (applyWithin capacity′ n′ []) (planSequence (extentOf h) log n′ capacity′ (activeSequence log (h .«log_guid»))) ≡ apply m ss
       go false p = sequence-again (extentOf h) log (activeSequence log (h .«log_guid»)) p
-      go true p =
-          let w = within capacity n [] p in
-          (ap (λ (x : ℕ). applyWithin capacity x []) {x = n′} {y = n} (omega (arith, w .same)) ∙ p, w .fits)
+      go true p = ap (λ (x : ℕ). applyWithin capacity′ x []) {x = n′} {y = n} (omega (arith, final n [] p)) ∙ within-again n [] p
 
-module _ (b b′ : List ℕ) {n n′ m : ℕ} {ss : List Sector} (longer : n ≤ n′) (below : n′ ≤ m) (capacity : length b′ ≡ length b)
-    (current : (h : Header) → currentHeader b n ≡ Current h → n′ ≤ length b′ → currentHeader b′ n′ ≡ Current h)
+module _ (b b′ : List ℕ) {n n′ m : ℕ} {ss : List Sector} (longer : n ≤ n′) (below : n′ ≤ m) (fits : m ≤ length b′)
     (log : (h : Header) → currentHeader b n ≡ Current h → logBytes h b′ ≡ logBytes h b) where
   -- whatever else changed, the same header is current
-  pub plan-again-by : plan b n ≡ apply m ss → plan b′ n′ ≡ apply m ss
+  pub plan-again-by : ((h : Header) → currentHeader b n ≡ Current h → currentHeader b′ n′ ≡ Current h) → plan b n ≡ apply m ss → plan b′ n′ ≡ apply m ss
   unfolding plan planHeader
-  plan-again-by e = go (currentHeader b n) refl e
+  plan-again-by current e = go (currentHeader b n) refl e
     where
       go : (a : Answer) → currentHeader b n ≡ a → planHeader a b n ≡ apply m ss → planHeader (currentHeader b′ n′) b′ n′ ≡ apply m ss
       go (Refused c) k p = let z : _≡_ {A = ℕ} 0 1 = cc in absurd (omega arith)
       go (Current h) k p =
-          let q = log-again {n = n} {n′ = n′} {m = m} {capacity = length b} {ss = ss} longer below h (logBytes h b) p in
-          ap (λ (a : Answer). planHeader a b′ n′) (current h k (omega (arith, q .1)))
+          ap (λ (a : Answer). planHeader a b′ n′) (current h k)
           ∙ ap (λ (l : List ℕ). planLog h l n′ (length b′)) (log h k)
-          ∙ ap (planLog h (logBytes h b) n′) capacity ∙ q .0
+          ∙ log-again (length b) {n = n} {n′ = n′} {m = m} {capacity′ = length b′} {ss = ss} longer below fits h (logBytes h b) p
 
-module _ (b b′ : List ℕ) {n n′ m : ℕ} {ss : List Sector} (longer : n ≤ n′) (below : n′ ≤ m) (capacity : length b′ ≡ length b) (first : firstMiB b′ ≡ firstMiB b)
-    (log : (h : Header) → currentHeader b n ≡ Current h → logBytes h b′ ≡ logBytes h b) where
-  pub plan-again : plan b n ≡ apply m ss → plan b′ n′ ≡ apply m ss
-  plan-again = plan-again-by b b′ longer below capacity (λ h k fits. read-again b n k b′ n′ first longer fits) log
+  pub plan-again : firstMiB b′ ≡ firstMiB b → plan b n ≡ apply m ss → plan b′ n′ ≡ apply m ss
+  plan-again first = plan-again-by (λ h k. read-again b n k b′ n′ first longer (omega (arith, below, fits)))

@@ -3,7 +3,7 @@
 use mathlib.Core.List.{List, []}
 use lib.ListN.{take}
 use Prim.Native.Nat.{ℕ}
-use Rattle.vhdx_replay.specs.Buffer.{put}
+use Rattle.vhdx_steps.specs.Buffer.{put}
 use Rattle.vhdx_slots.specs.Slots.{bit}
 use Rattle.vhdx_pieces.specs.declared.Machine.{Machine}
 use Rattle.vhdx_pieces.specs.declared.Turn.{Turn}

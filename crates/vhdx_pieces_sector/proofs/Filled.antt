@@ -8,7 +8,7 @@ use lib.ListN.{length, take, drop, replicate, length-replicate, drop-of-length-l
 use Rattle.field.specs.Fields.{leBytes}
 use Rattle.field.proofs.Bytes.{le-bytes-long}
 use Rattle.vhdx_walk.specs.Entries.{zeroSector}
-use Rattle.vhdx_replay.specs.Buffer.{put, zeroed}
+use Rattle.vhdx_steps.specs.Buffer.{put, zeroed}
 use Rattle.vhdx_replay.proofs.Assembled.{assembled}
 use Rattle.vhdx_pieces_walk.specs.declared.Held.{Held}
 use Rattle.vhdx_pieces_walk.specs.Walking.{dataSector}

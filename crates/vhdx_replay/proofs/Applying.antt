@@ -26,15 +26,15 @@ use Rattle.vhdx_log.specs.Work.{lies, someLies, Plan, apply, count}
 use Rattle.vhdx_log.specs.Plan.{logBytes, extentOf, plan}
 use Rattle.vhdx_log.specs.Answers.{logOf}
 use Rattle.vhdx_log.proofs.Answering.{log-is}
-use Rattle.vhdx_replay.specs.Buffer.{zeroed}
-use Rattle.vhdx_replay.specs.Steps.{File, Step, write, run, runs, steps}
-use Rattle.vhdx_replay.specs.Calls.{file}
+use Rattle.vhdx_steps.specs.Buffer.{zeroed}
+use Rattle.vhdx_steps.specs.Steps.{File, Step, write, run, runs, steps}
+use Rattle.vhdx_steps.specs.Calls.{file}
 use Rattle.vhdx_replay.specs.Writes.{allWritten, Safe, Writable}
 use Rattle.vhdx_replay.specs.Planned.{extentBy, logExtent, Planned}
-use Rattle.vhdx_replay.proofs.Bytes.{zeroed-length, zeroed-low}
-use Rattle.vhdx_replay.proofs.Restart.{EndBy}
-use Rattle.vhdx_replay.proofs.Sectors.{Whole, neither}
-use Rattle.vhdx_replay.proofs.Reading.{Applied, applied, header-of, same-part}
+use Rattle.vhdx_steps.proofs.Bytes.{zeroed-length, zeroed-low}
+use Rattle.vhdx_steps.proofs.Restart.{EndBy}
+use Rattle.vhdx_steps.proofs.Sectors.{Whole, neither}
+use Rattle.vhdx_steps.proofs.Reading.{Applied, applied, header-of, same-part}
 
 -- ---- sectors
 
@@ -116,7 +116,7 @@ module _ (b : List ℕ) (n : ℕ) (log : Extent) (w : Work) (p : Planned b n log
     grown-log : part g log ≡ part b log
     unfolding part
     grown-log =
-        same-part (log .offset) (log .length) b g grown-long inside
+        same-part (log .offset) (log .length) b g grown-inside inside
         (λ i from to. ap (λ (x : List ℕ). getD x i 0) q ∙ zeroed-low b n (w .length) (known .grows) (known .fits) i (omega (arith, within)))
 
     module _ (l : List ℕ) (s : l ≡ part g log) (v : Walk) (from : v ≡ walkFrom (w .cursor)) where

@@ -7,8 +7,8 @@ use Prim.Native.Nat.{ℕ, _+_, _-_, _≤_, _<_}
 use native.Mathlib.Omega.{arith}
 use lib.ListN.{length, take, drop, getD, length-append, List·getD-append}
 use lib.Seq.{getD-append-add, getD-take, getD-drop, ext-getD}
-use Rattle.vhdx_replay.specs.Buffer.{put}
-use Rattle.vhdx_replay.proofs.Bytes.{part-long, lt-or-le, put-length, put-in, put-out}
+use Rattle.vhdx_steps.specs.Buffer.{put}
+use Rattle.vhdx_steps.proofs.Bytes.{part-long, lt-or-le, put-length, put-in, put-out}
 
 module _ (z s l t : List ℕ) (n : ℕ) (p : length s ≡ length z) (q : length l + n + length t ≡ length s) where
   middle-long : length (take n (drop (length l) s)) ≡ n

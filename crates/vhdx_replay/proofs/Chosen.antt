@@ -24,11 +24,11 @@ use Rattle.vhdx_walk.proofs.Sectors.{left-from}
 use Rattle.vhdx_log.specs.declared.Work.{Work}
 use Rattle.vhdx_log.specs.Work.{Plan, apply}
 use Rattle.vhdx_log.specs.Plan.{plan}
-use Rattle.vhdx_replay.specs.Buffer.{put}
-use Rattle.vhdx_replay.specs.Steps.{Step, write, runs, admitted, chosen, stepsOf, single}
-use Rattle.vhdx_replay.specs.Calls.{file}
+use Rattle.vhdx_steps.specs.Buffer.{put}
+use Rattle.vhdx_steps.specs.Steps.{Step, write, runs, admitted, chosen, stepsOf, single}
+use Rattle.vhdx_steps.specs.Calls.{file}
 use Rattle.vhdx_replay.specs.Planned.{Planned}
-use Rattle.vhdx_replay.proofs.Sectors.{Whole}
+use Rattle.vhdx_steps.proofs.Sectors.{Whole}
 use Rattle.vhdx_replay.proofs.Applying.{planned, plan-is, known, ready-here, length-fits}
 
 nth-none : (ss : List Sector) (i : ℕ) → none ≡ getElem? ss i → getElem? (map write ss) i ≡ none

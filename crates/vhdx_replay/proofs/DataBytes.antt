@@ -7,8 +7,8 @@ use native.Mathlib.Omega.{arith}
 use lib.ListN.{length, take, drop}
 use Rattle.vhdx_entry.specs.Entry.{leadingBytes, trailingBytes}
 use Rattle.vhdx_walk.specs.Bytes.{sectorBytes}
-use Rattle.vhdx_replay.specs.Buffer.{put}
-use Rattle.vhdx_replay.proofs.Bytes.{part-long}
+use Rattle.vhdx_steps.specs.Buffer.{put}
+use Rattle.vhdx_steps.proofs.Bytes.{part-long}
 use Rattle.vhdx_replay.proofs.Assembled.{assembled, inner-part}
 
 -- n bytes at an offset, as the code takes them by start and end

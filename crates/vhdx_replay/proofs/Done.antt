@@ -21,13 +21,14 @@ use Rattle.vhdx_log.specs.declared.Work.{Work}
 use Rattle.vhdx_log.specs.Work.{Plan, refused, apply, count}
 use Rattle.vhdx_log.specs.Plan.{plan}
 use Rattle.vhdx_log.specs.Answers.{logOf, planIn, countOf, ReadyIn, planOf}
-use Rattle.vhdx_replay.specs.Buffer.{put, zeroed}
-use Rattle.vhdx_replay.specs.Steps.{File, Step, write, end, runs, steps, admitted, stepsOf}
-use Rattle.vhdx_replay.specs.Calls.{file}
+use Rattle.vhdx_steps.specs.Buffer.{put, zeroed}
+use Rattle.vhdx_steps.specs.Steps.{File, Step, write, end, runs, steps, admitted, stepsOf}
+use Rattle.vhdx_steps.specs.Calls.{file}
 use Rattle.vhdx_replay.specs.Planned.{logExtent, Planned}
 use Rattle.vhdx_replay.proofs.Applying.{planned, header, plan-is, known, all-steps, length-fits}
-use Rattle.vhdx_replay.proofs.Reading.{same-first, reads}
-use Rattle.vhdx_replay.proofs.Restart.{Inv, ran, whole, good, first, untouched}
+use Rattle.vhdx_steps.proofs.Reading.{same-first, reads}
+use Rattle.vhdx_steps.specs.Failures.{Lost}
+use Rattle.vhdx_steps.proofs.Restart.{ran, whole, good, untouched}
 
 -- ---- what the plan's answer says
 
@@ -67,10 +68,11 @@ module _ (b : List ℕ) (n : ℕ) (log : Extent) (w : Work) (p : Planned b n log
   pub done-size : runs (steps (apply (w .length) (planned b log w))) (file b n) .size ≡ w .length
   done-size = written-size (planned b log w) (record { buffer = zeroed b n (w .length); size = w .length })
 
-  kept : Inv (file b n) (w .length) (planned b log w) (runs (steps (apply (w .length) (planned b log w))) (file b n))
+  kept : (length (runs (steps (apply (w .length) (planned b log w))) (file b n) .buffer) ≡ length b)
+      × Lost (w .length) (planned b log w) (file b n) (runs (steps (apply (w .length) (planned b log w))) (file b n))
   kept =
       let R = reads (file b n) (header b n log w p .0) (header b n log w p .1) (plan-is b n log w p) in
-      ran (file b n) (w .length) (planned b log w) (R .grows) (R .fits) (good R) (first R) (whole (steps (apply (w .length) (planned b log w))) (file b n))
+      ran (w .length) (planned b log w) (good R) (R .grows) (R .fits) (whole (steps (apply (w .length) (planned b log w))) (file b n))
 
   pub holds-first : MiB ≤ w .length
   holds-first = omega (arith, accepted b n (header b n log w p .1) .holds-first, known b n log w p .grows)
@@ -84,7 +86,7 @@ module _ (b : List ℕ) (n : ℕ) (log : Extent) (w : Work) (p : Planned b n log
     same-buffer = done ∙ ap (λ (x : Plan). runs (steps x) (file b n) .buffer) (plan-is b n log w p)
 
     pub long : length g ≡ length b
-    long = ap length same-buffer ∙ kept .capacity
+    long = ap length same-buffer ∙ kept .0
 
     pub fits : w .length ≤ length g
     fits = omega (arith, known b n log w p .fits, long)
@@ -92,5 +94,5 @@ module _ (b : List ℕ) (n : ℕ) (log : Extent) (w : Work) (p : Planned b n log
     pub same-start : firstMiB g ≡ firstMiB b
     same-start =
         let R = reads (file b n) (header b n log w p .0) (header b n log w p .1) (plan-is b n log w p) in
-        same-first b g long (omega (arith, accepted b n (header b n log w p .1) .holds-first, length-fits b n log w p))
-        (λ i l. ap (λ (x : List ℕ). getD x i 0) same-buffer ∙ untouched R kept i (inl l))
+        same-first b g (omega (arith, holds-first, fits)) (omega (arith, holds-first, known b n log w p .fits))
+        (λ i l. ap (λ (x : List ℕ). getD x i 0) same-buffer ∙ untouched R (kept .1) i (inl l))

@@ -1,13 +1,8 @@
-pub mod Bytes
-pub mod Every
 pub mod Storing
 pub mod Assembled
 pub mod DataBytes
 pub mod Writing
 pub mod Next
-pub mod Restart
-pub mod Sectors
-pub mod Reading
 pub mod Loop
 pub mod Applying
 pub mod Chosen

@@ -13,11 +13,11 @@ use Rattle.extent.proofs.Laws.{share}
 use Rattle.vhdx_walk.specs.Entries.{Sector}
 use Rattle.vhdx_walk.specs.Walk.{sectorsLeft, Ready, Settled}
 use Rattle.vhdx_walk.specs.declared.Walk.{Walk}
-use Rattle.vhdx_replay.specs.Buffer.{put}
+use Rattle.vhdx_steps.specs.Buffer.{put}
 use Rattle.vhdx_replay.specs.Writes.{firstFits, firstWritten, allWritten, Safe, Writable}
-use Rattle.vhdx_replay.proofs.Bytes.{put-length, put-out}
-use Rattle.vhdx_replay.proofs.Sectors.{clash}
-use Rattle.vhdx_replay.proofs.Reading.{same-part}
+use Rattle.vhdx_steps.proofs.Bytes.{put-length, put-out}
+use Rattle.vhdx_steps.proofs.Sectors.{clash}
+use Rattle.vhdx_steps.proofs.Reading.{same-part}
 
 -- a write outside an extent leaves its bytes
 kept-part : (b d : List ℕ) (at : ℕ) (log : Extent) → length d ≡ 4096 → at + 4096 ≤ length b → log .offset + log .length ≤ length b
@@ -25,7 +25,7 @@ kept-part : (b d : List ℕ) (at : ℕ) (log : Extent) → length d ≡ 4096 →
 unfolding part
 kept-part b d at log l h inside apart =
     let fits : at + length d ≤ length b = omega arith in
-    same-part (log .offset) (log .length) b (put b at d) (put-length b at d fits) inside
+    same-part (log .offset) (log .length) b (put b at d) (omega (arith, put-length b at d fits)) inside
     (λ i p q.
     put-out b at d fits i
     (λ x. clash (share at 4096 (log .offset) (log .length) (omega arith) (omega (arith, p, q)) (omega (arith, x .0, q)) (omega (arith, x .1, p))) apart))

@@ -13,7 +13,7 @@ use Rattle.vhdx_walk.specs.declared.Walk.{Walk}
 use Rattle.vhdx_walk.specs.declared.SectorWrite.{SectorWrite}
 use Rattle.vhdx_walk.specs.declared.Next.{Next}
 use Rattle.vhdx_walk.specs.declared.Next.the-variants.{Sector as Here, End}
-use Rattle.vhdx_replay.specs.Buffer.{put}
+use Rattle.vhdx_steps.specs.Buffer.{put}
 use Rattle.vhdx_replay.specs.Writes.{firstFits, firstWritten}
 
 first-fits : (l : List Sector) (x : Sector) (capacity : ℕ) → some x ≡ getElem? l 0 → firstFits l capacity → x .offset + 4096 ≤ capacity

@@ -6,7 +6,7 @@ use mathlib.Core.List.{List}
 use native.Mathlib.Numerals.{add-one}
 use lib.ListN.{length, getD, set}
 use lib.Seq.{paste, paste-suc, take-length}
-use Rattle.vhdx_replay.specs.Buffer.{put}
+use Rattle.vhdx_steps.specs.Buffer.{put}
 
 -- a turn's store
 pub paste-more : (r : List ℕ) (at : ℕ) (d : List ℕ) (k v : ℕ) {b : List ℕ} → b ≡ paste r at d k → at + k < length r → k < length d → getD d k 0 ≡ v

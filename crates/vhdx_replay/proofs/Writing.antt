@@ -10,7 +10,7 @@ use Rattle.vhdx_walk.specs.Bytes.{sectorBytes}
 use Rattle.vhdx_walk.specs.Cursor.{bytesOf, Held}
 use Rattle.vhdx_walk.specs.declared.run.Source.{Source}
 use Rattle.vhdx_walk.specs.declared.run.Source.the-variants.{Zeros, Data}
-use Rattle.vhdx_replay.specs.Buffer.{put, zeroed}
+use Rattle.vhdx_steps.specs.Buffer.{put, zeroed}
 
 pub zeros-written : (b log : List ℕ) (at : ℕ) (source : Source) → source ≡ Zeros → zeroed b at (at + 4096) ≡ put b at (bytesOf log source)
 unfolding zeroSector

@@ -1,5 +1,2 @@
-pub mod Buffer
-pub mod Steps
-pub mod Calls
 pub mod Writes
 pub mod Planned

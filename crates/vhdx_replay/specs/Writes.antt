@@ -10,7 +10,7 @@ use Rattle.extent.specs.Extent.{shares, part}
 use Rattle.vhdx_walk.specs.Entries.{Sector}
 use Rattle.vhdx_walk.specs.Walk.{sectorsLeft, Ready, Settled}
 use Rattle.vhdx_walk.specs.declared.Walk.{Walk}
-use Rattle.vhdx_replay.specs.Buffer.{put}
+use Rattle.vhdx_steps.specs.Buffer.{put}
 
 -- the first of some sectors, if there is one: it ends inside the buffer; and the buffer with it written
 abbrev pub firstFits : List Sector → ℕ → Type 0

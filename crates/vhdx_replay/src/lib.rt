@@ -15,19 +15,11 @@ ghost use Rattle.extent.specs.Extent.{part as partOf};
 ghost use Rattle.decision.specs.Refusal.{refusalOf};
 ghost use Rattle.vhdx_walk.specs.Walk.{sectorsLeft, Ready, Settled};
 ghost use Rattle.vhdx_log.specs.Plan.{plan};
-ghost use Rattle.vhdx_replay.specs.Buffer.{zeroed};
-ghost use Rattle.vhdx_replay.specs.Steps.{steps, runs, chosen, single};
-ghost use Rattle.vhdx_replay.specs.Calls.{file};
+ghost use Rattle.vhdx_steps.specs.Buffer.{zeroed};
+ghost use Rattle.vhdx_steps.specs.Steps.{steps, runs, chosen, single};
+ghost use Rattle.vhdx_steps.specs.Calls.{file};
 ghost use Rattle.vhdx_replay.specs.Writes.{firstFits, firstWritten, allWritten, Writable};
 ghost use Rattle.vhdx_replay.specs.Planned.{logExtent, Planned};
-
-// What a call that does one step answers.
-pub struct Stepped {
-    // the refusal's number, or 0
-    pub refusal: u64,
-    // of the image as the step leaves it
-    pub length: u64,
-}
 
 // Step 0: zeros from the given length up to the final one, upward, so that growth that is interrupted is shorter growth.
 fn grow(buffer: &mut [u8], from: u64, to: u64)

@@ -9,7 +9,7 @@ ghost use lib.ListN.{length as lengthOf, take, drop};
 ghost use Rattle.extent.specs.Extent.{part as partOf};
 ghost use Rattle.vhdx_walk.specs.Bytes.{sectorBytes};
 ghost use Rattle.vhdx_walk.specs.Cursor.{bytesOf, Held};
-ghost use Rattle.vhdx_replay.specs.Buffer.{put};
+ghost use Rattle.vhdx_steps.specs.Buffer.{put};
 
 // The bytes of a data sector, whose descriptor and stored sector are at these offsets of the log.
 fn data(log: &[u8], descriptor: usize, sector: usize) -> [u8; 4096]

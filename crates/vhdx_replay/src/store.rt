@@ -2,7 +2,7 @@
 ghost use mathlib.Core.Path.{_≡_};
 ghost use Prim.Native.Nat.{_+_, _≤_};
 ghost use lib.ListN.{length as lengthOf};
-ghost use Rattle.vhdx_replay.specs.Buffer.{put, zeroed};
+ghost use Rattle.vhdx_steps.specs.Buffer.{put, zeroed};
 
 // An array to put the bytes of one write together in. What is in it does not matter.
 pub fn blank() -> [u8; 4096]

@@ -14,16 +14,16 @@ use lib.Seq.{getD-take, getD-drop, ext-getD, take-append-le, take-at, drop-at, l
 use Rattle.field.specs.Fields.{le, Bytes, field, starts}
 use Rattle.field.proofs.Bytes.{bytes-append, bytes-take, bytes-drop, bytes-zeros}
 use Rattle.crc32c.specs.Crc.{poly, ones, bit, bits, byte, updates, crc, zeroed}
-use Rattle.vhdx_replay.specs.Buffer.{put}
-use Rattle.vhdx_replay.proofs.Bytes.{part-long, put-length, put-in, put-out}
-use Rattle.vhdx_replay.proofs.Reading.{same-part}
+use Rattle.vhdx_steps.specs.Buffer.{put}
+use Rattle.vhdx_steps.proofs.Bytes.{part-long, put-length, put-in, put-out}
+use Rattle.vhdx_steps.proofs.Reading.{same-part}
 
 -- ---- a part of a list in which bytes were put
 
 module _ (r : List ℕ) (at : ℕ) (d : List ℕ) (h : at + length d ≤ length r) where
   pub part-out : (a n : ℕ) → a + n ≤ length r → (a + n ≤ at) ⊎ (at + length d ≤ a) → take n (drop a (put r at d)) ≡ take n (drop a r)
   part-out a n b s =
-      same-part a n r (put r at d) (put-length r at d h) b
+      same-part a n r (put r at d) (omega (arith, put-length r at d h, b)) b
       (λ i l u. put-out r at d h i (λ x. ⊎-elim (λ y. omega (arith, x .0)) (λ y. omega (arith, x .1)) s))
 
   pub field-out : (a n : ℕ) → a + n ≤ length r → (a + n ≤ at) ⊎ (at + length d ≤ a) → field (put r at d) a n ≡ field r a n

@@ -16,8 +16,8 @@ use Rattle.field.proofs.Laws.{field-add}
 use Rattle.extent.specs.Extent.{MiB, wholeMiB}
 use Rattle.crc32c.specs.Crc.{crc, zeroed}
 use Rattle.vhdx_header.specs.Header.{checksum, sequenceNumber, logGuid, logVersion, logLength, logOffset, head, validHeader, versionRule, logVersionRule, logLimit, fieldRules}
-use Rattle.vhdx_replay.specs.Buffer.{put}
-use Rattle.vhdx_replay.proofs.Bytes.{put-length}
+use Rattle.vhdx_steps.specs.Buffer.{put}
+use Rattle.vhdx_steps.proofs.Bytes.{put-length}
 use Rattle.vhdx_rewrite.specs.Rewrite.{checksumAt, numberAt, fileWriteAt, logAt, nextNumber, numbered, named, rewritten, newChecksum, closedHeader}
 use Rattle.vhdx_rewrite.proofs.Parts.{part-out, field-out, field-in, starts-same, zeroed-put, crc-lt, bytes-put, bytes-zeroed}
 

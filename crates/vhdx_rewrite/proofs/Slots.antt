@@ -11,7 +11,7 @@ use Rattle.extent.specs.Extent.{MiB}
 use Rattle.vhdx_header.specs.Current.{headerAt, firstMiB, otherSlot}
 use Rattle.vhdx_header.proofs.Standing.{Slots}
 use Rattle.vhdx_replay.proofs.Assembled.{inner-part}
-use Rattle.vhdx_replay.proofs.Reading.{same-part}
+use Rattle.vhdx_steps.proofs.Reading.{same-part}
 
 -- either slot lies in the first MiB
 pub slots-low : {a b : ℕ} → Slots a b → (65536 ≤ a) × (a + 4096 ≤ MiB) × (65536 ≤ b) × (b + 4096 ≤ MiB)
@@ -32,10 +32,10 @@ unfolding headerAt firstMiB
 slot-part b a l h =
     inner-part b 0 MiB a 4096 h l ∙ ap (λ (k : ℕ). take 4096 (drop k b)) {x = 0 + a} {y = a} (omega arith)
 
-pub slot-same : (b b′ : List ℕ) (a : ℕ) → length b′ ≡ length b → a + 4096 ≤ MiB → MiB ≤ length b
+pub slot-same : (b b′ : List ℕ) (a : ℕ) → a + 4096 ≤ MiB → MiB ≤ length b′ → MiB ≤ length b
     → ((i : ℕ) → a ≤ i → i < a + 4096 → getD b′ i 0 ≡ getD b i 0) → headerAt (firstMiB b′) a ≡ headerAt (firstMiB b) a
-slot-same b b′ a e l h s =
-    slot-part b′ a l (omega arith) ∙ same-part a 4096 b b′ e (omega arith) s ∙ sym (slot-part b a l h)
+slot-same b b′ a l h′ h s =
+    slot-part b′ a l h′ ∙ same-part a 4096 b b′ (omega arith) (omega arith) s ∙ sym (slot-part b a l h)
 
 pub slot-byte : (b : List ℕ) (a i : ℕ) → a + 4096 ≤ MiB → MiB ≤ length b → a ≤ i → i < a + 4096 → getD b i 0 ≡ getD (headerAt (firstMiB b) a) (i - a) 0
 slot-byte b a i l h from to =

@@ -9,8 +9,8 @@ use lib.ListN.{length, take, drop}
 use Rattle.extent.specs.Extent.{MiB}
 use Rattle.vhdx_header.specs.Header.{sequenceNumber}
 use Rattle.vhdx_header.specs.Current.{headerAt, firstMiB, otherSlot}
-use Rattle.vhdx_replay.specs.Buffer.{put}
-use Rattle.vhdx_replay.proofs.Bytes.{part-long}
+use Rattle.vhdx_steps.specs.Buffer.{put}
+use Rattle.vhdx_steps.proofs.Bytes.{part-long}
 use Rattle.vhdx_rewrite.specs.Rewrite.{greatest, closedHeader}
 use Rattle.vhdx_rewrite.specs.Writing.{Closable, headerWritten}
 use Rattle.vhdx_rewrite.proofs.Slots.{slot-part}

@@ -8,7 +8,7 @@ use lib.ListN.{replicate}
 use Rattle.field.specs.Fields.{leBytes}
 use Rattle.crc32c.specs.Crc.{crc, zeroed}
 use Rattle.vhdx_header.specs.Header.{sequenceNumber}
-use Rattle.vhdx_replay.specs.Buffer.{put}
+use Rattle.vhdx_steps.specs.Buffer.{put}
 
 -- a sequence number's "greatest value", 2^64 - 1: the one that has no next
 abbrev pub greatest : ℕ

@@ -8,7 +8,7 @@ use lib.ListN.{length}
 use Rattle.extent.specs.Extent.{MiB}
 use Rattle.vhdx_header.specs.Header.{sequenceNumber}
 use Rattle.vhdx_header.specs.Current.{slot1, slot2, headerAt, firstMiB, otherSlot}
-use Rattle.vhdx_replay.specs.Buffer.{put}
+use Rattle.vhdx_steps.specs.Buffer.{put}
 use Rattle.vhdx_rewrite.specs.Rewrite.{greatest, closedHeader}
 
 -- a header that stands in one of the slots of a buffer, whose sequence number can be raised

@@ -1,7 +1,7 @@
 -- `capi::shrunvaki_vhdx_close` meets its contract: what close answers, in its slots.
 -- Assumes nothing.
 use mathlib.Core.Path.{ap}
-use Rattle.vhdx_close.specs.declared.Closed.{Closed}
+use Rattle.vhdx_close_steps.specs.declared.Closed.{Closed}
 use Rattle.vhdx_slots.specs.Slots.{inSlots}
 use Rattle.capi.specs.Answers.{closedIn}
 use borrow.Author.Needs.{needs}

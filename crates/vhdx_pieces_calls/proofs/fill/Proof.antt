@@ -3,7 +3,7 @@
 use mathlib.Core.Path.{sym, ap, _∙_}
 use mathlib.Core.List.{List}
 use Prim.Native.Nat.{ℕ}
-use Rattle.vhdx_replay.specs.Buffer.{put}
+use Rattle.vhdx_steps.specs.Buffer.{put}
 use Rattle.vhdx_pieces.specs.declared.Turn.{Turn}
 use Rattle.vhdx_pieces.specs.Machines.{writtenOf}
 use Rattle.vhdx_pieces_calls.specs.Calls.{pieceOf}

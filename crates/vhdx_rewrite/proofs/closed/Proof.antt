@@ -5,11 +5,11 @@ use native.Mathlib.Omega.{arith}
 use mathlib.Core.List.{List}
 use Prim.Native.Nat.{ℕ}
 use lib.ListN.{length}
-use Rattle.vhdx_replay.specs.Buffer.{put}
+use Rattle.vhdx_steps.specs.Buffer.{put}
 use Rattle.field.specs.Fields.{leBytes}
 use Rattle.field.proofs.Bytes.{le-bytes-long}
 use Rattle.vhdx_rewrite.specs.Rewrite.{newChecksum, closedHeader}
-use Rattle.vhdx_replay.proofs.Bytes.{put-length}
+use Rattle.vhdx_steps.proofs.Bytes.{put-length}
 use borrow.Author.Needs.{needs}
 use Rattle.vhdx_rewrite.proofs.closed.Statement.{statement}
 use Rattle.vhdx_rewrite.proofs.closed.Tie as tie

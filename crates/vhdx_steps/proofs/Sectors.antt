@@ -22,10 +22,10 @@ use Rattle.vhdx_walk.specs.Bytes.{sectorBytes, descriptorOf, descriptorsFrom, e
 use Rattle.vhdx_walk.specs.Cursor.{Readable, AllReadable}
 use Rattle.vhdx_walk.proofs.Parts.{data-rank, size-fits, descriptors-fit}
 use Rattle.vhdx_log.specs.Work.{lies, someLies}
-use Rattle.vhdx_replay.specs.Steps.{end, In, Named}
-use Rattle.vhdx_replay.proofs.Bytes.{part-long}
-use Rattle.vhdx_replay.proofs.Every.{All, all-append}
-use Rattle.vhdx_replay.proofs.Restart.{EndBy}
+use Rattle.vhdx_steps.specs.Steps.{end, In, Named}
+use Rattle.vhdx_steps.proofs.Bytes.{part-long}
+use Rattle.vhdx_steps.proofs.Every.{All, all-append}
+use Rattle.vhdx_steps.proofs.Restart.{EndBy}
 
 -- ---- 4,096 bytes
 

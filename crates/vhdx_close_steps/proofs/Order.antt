@@ -1,4 +1,4 @@
--- A log that is closed by calls that may be interrupted: either the header is not yet written, and the steps below the next one in order are
+-- A log that is closed by calls that may be interrupted, or lost in a power failure: either the header is not yet written, and the steps below the next one in order are
 -- done (`Open`); or it is, and the file is what an undisturbed close leaves (`Closed`).
 -- Assumes nothing.
 use mathlib.Core.Path.{_≡_, refl, sym, ap, subst, _∙_}
@@ -25,23 +25,26 @@ use Rattle.vhdx_header.proofs.Laws.{accepted}
 use Rattle.vhdx_walk.specs.Entries.{Sector}
 use Rattle.vhdx_log.specs.Work.{Plan, apply}
 use Rattle.vhdx_log.specs.Plan.{extentOf}
-use Rattle.vhdx_replay.specs.Steps.{File, end, In, Named, Step, grow, write, run, runs, TornWrite, TornGrowth, Torn, Ran, stop, torn, next, steps, admitted, stepsOf, chosen, single}
-use Rattle.vhdx_replay.specs.Buffer.{put}
-use Rattle.vhdx_replay.specs.Calls.{planOf}
-use Rattle.vhdx_replay.proofs.Every.{All, all-append}
-use Rattle.vhdx_replay.proofs.Bytes.{lt-or-le, put-length, put-out, zeroed-length, zeroed-low}
-use Rattle.vhdx_replay.proofs.Restart.{EndBy, Inv, at-first, Good, done, keeps, ran, whole, writes-good, Agree, in-or-out, meet-one, grown-alike, all-done, Reads}
-use Rattle.vhdx_replay.proofs.Reading.{reads}
-use Rattle.vhdx_replay.proofs.Sectors.{Kept, clash}
+use Rattle.vhdx_steps.specs.Steps.{File, end, In, Named, Step, grow, write, run, runs, TornWrite, TornGrowth, Torn, Ran, stop, torn, next, steps, admitted, stepsOf, chosen, single}
+use Rattle.vhdx_steps.specs.Buffer.{put}
+use Rattle.vhdx_steps.specs.Calls.{planOf}
+use Rattle.vhdx_steps.proofs.Every.{All, all-append}
+use Rattle.vhdx_steps.proofs.Bytes.{lt-or-le, put-length, put-out, zeroed-length, zeroed-low}
+use Rattle.vhdx_steps.specs.Failures.{Lost, Reopened}
+use Rattle.vhdx_steps.proofs.Restart.{EndBy, Good, nothing, both, done, of-step, ran, whole, writes-good, Agree, in-or-out, meet-one, grown-alike, all-done, Reads}
+use Rattle.vhdx_steps.proofs.Losses.{reopened-lost}
+use Rattle.vhdx_steps.proofs.Reading.{reads}
+use Rattle.vhdx_steps.proofs.Sectors.{Kept, clash}
 use Rattle.vhdx_rewrite.specs.Rewrite.{closedHeader}
 use Rattle.vhdx_rewrite.specs.Rewrite.{greatest}
-use Rattle.vhdx_close.specs.Close.{slotIn, headerSector, closePlan, afterClose, afterCloseStep}
-use Rattle.vhdx_close.specs.Calls.{WholeBy, WholeIfValid, Calls, none, close, step, refuse, interrupted-close, interrupted-step}
-use Rattle.vhdx_close.specs.Safety.{HasNoLog}
+use Rattle.vhdx_close_steps.specs.Close.{slotIn, headerSector, closePlan, afterClose, afterCloseStep}
+use Rattle.vhdx_close_steps.specs.Calls.{WholeBy, WholeIfValid, Call, close, step, refuse, interrupted-close, interrupted-step}
+use Rattle.vhdx_close_steps.specs.Failures.{SlotKeptBy, Failed, sectors-lost, header-lost, History, original, called, lost, reopened, flushed, failed}
+use Rattle.vhdx_close_steps.specs.Safety.{HasNoLog}
 use Rattle.vhdx_rewrite.proofs.Parts.{part-in}
 use Rattle.vhdx_rewrite.proofs.Rewriting.{closed-long}
 use Rattle.vhdx_rewrite.proofs.Slots.{slots-low, slot-same, slot-part, slot-byte}
-use Rattle.vhdx_close.proofs.Again.{current-kept, slots-of, long, KeptHere, still-current, close-again, close-done, gone}
+use Rattle.vhdx_close_steps.proofs.Again.{current-kept, slots-of, long, KeptHere, still-current, plan-still, close-again, close-done, gone}
 
 -- ---- what a run of steps can be
 
@@ -87,8 +90,8 @@ back-one : (m : ℕ) (s : Sector) (ts : List Sector) {f g : File} → end s ≤ 
 back-one m s ts {f} {g} e b a =
     let bg : end s ≤ length (g .buffer) = omega arith in
     record {
-      capacity = a .capacity ∙ put-length (g .buffer) (s .offset) (s .bytes) bg;
-      big = b;
+      big-f = a .big-f;
+      big-g = b;
       size-f = a .size-f;
       size-g = a .size-g;
       rest = λ i l n. a .rest i l (λ x. n (inr x)) ∙ put-out (g .buffer) (s .offset) (s .bytes) bg i (λ x. n (inl x));
@@ -112,8 +115,9 @@ module _ (identifier : List ℕ) (sixteen : length identifier ≡ 16) (o : File)
   large : MiB ≤ o .size
   large = accepted (o .buffer) (o .size) k .holds-first
 
-  holds-MiB : MiB ≤ length (o .buffer)
-  holds-MiB = omega (arith, large, R .grows, R .fits)
+  -- a buffer that the final length fits in
+  holds-MiB : (f : File) → m ≤ length (f .buffer) → MiB ≤ length (f .buffer)
+  holds-MiB f fits = omega (arith, large, R .grows, fits)
 
   c-long : length (c .bytes) ≡ 4096
   c-long = closed-long (slotIn o (h .slot)) identifier (long identifier o h k e) sixteen
@@ -146,16 +150,18 @@ module _ (identifier : List ℕ) (sixteen : length identifier ≡ 16) (o : File)
   mild-good (grow n) q = q
   mild-good (write s) q = (q .0, λ i x. named-left ss c i (q .1 i x))
 
-  mild-slot : (s : Step) (f g : File) → Mild s → Inv o m ts f → Torn s f g → slotIn g other ≡ slotIn f other
+  mild-slot : (s : Step) (f g : File) → Mild s → Lost m ts o f → Torn s f g → slotIn g other ≡ slotIn f other
   unfolding Mild Own
   mild-slot (grow n) f g q v t =
       let low = slots-low (slots-of identifier o h k e) in
-      slot-same (f .buffer) (g .buffer) (otherSlot (h .slot)) (t .capacity) (low .3) (omega (arith, holds-MiB, v .capacity))
-      (λ i a b. t .given i (omega (arith, large, v .longer, low .3)))
+      let b = holds-MiB f (v .capacity (R .fits)) in
+      slot-same (f .buffer) (g .buffer) (otherSlot (h .slot)) (low .3) (omega (arith, b, t .capacity)) b
+      (λ i x y. t .given i (omega (arith, large, v .from, low .3)))
   mild-slot (write s) f g q v t =
       let low = slots-low (slots-of identifier o h k e) in
-      slot-same (f .buffer) (g .buffer) (otherSlot (h .slot)) (t .capacity) (low .3) (omega (arith, holds-MiB, v .capacity))
-      (λ i a b. t .rest i (λ x. R .apart i (inl (omega (arith, low .3))) (q .1 i x)))
+      let b = holds-MiB f (v .capacity (R .fits)) in
+      slot-same (f .buffer) (g .buffer) (otherSlot (h .slot)) (low .3) (omega (arith, b, t .capacity)) b
+      (λ i x y. t .rest i (λ z. R .apart i (inl (omega (arith, low .3))) (q .1 i z)))
 
   -- ---- before the header is written
 
@@ -179,7 +185,7 @@ module _ (identifier : List ℕ) (sixteen : length identifier ≡ 16) (o : File)
   Progress (suc j) f = (j ≤ length ss) × Agree m (drop j ts) f (target j)
 
   record Open (n : ℕ) (f : File) : Type 0 where
-    inv : Inv o m ts f
+    inv : Lost m ts o f
     dormant : Dormant f
     progress : Progress n f
 
@@ -232,7 +238,7 @@ module _ (identifier : List ℕ) (sixteen : length identifier ≡ 16) (o : File)
 
   start : Open zero o
   unfolding Dormant Progress
-  start = record { inv = at-first o m ts (R .grows) (R .fits); dormant = λ v. refl; progress = tt }
+  start = record { inv = nothing m ts (R .grows); dormant = λ v. refl; progress = tt }
 
   -- ---- an earlier step is next again
 
@@ -256,28 +262,27 @@ module _ (identifier : List ℕ) (sixteen : length identifier ≡ 16) (o : File)
   -- ---- what is touched
 
   -- the rest of the first MiB, and the log
-  pub untouched : (f : File) → Inv o m (ss ++ (headerSector identifier o h ∷ [])) f → (i : ℕ) → KeptHere identifier o h k e i → getD (f .buffer) i 0 ≡ getD (o .buffer) i 0
+  pub untouched : (f : File) → Lost m (ss ++ (headerSector identifier o h ∷ [])) o f → (i : ℕ) → KeptHere identifier o h k e i → getD (f .buffer) i 0 ≡ getD (o .buffer) i 0
   untouched f v i x =
-      let l : i < o .size = R .inside i (x .0) in
-      v .rest i (omega (arith, v .longer))
+      v .given i (R .inside i (x .0))
       (λ n. ⊎-elim (λ y. R .apart i (x .0) y) (λ y. x .1 (y .0, omega (arith, y .1, c-long))) (named-split ss c i n))
-      ∙ zeroed-low (o .buffer) (o .size) m (R .grows) (R .fits) i l
 
   all-good : All (Good m ts) (steps (apply m ts))
   all-good = (refl, writes-good m ts ts ends (λ i x. x))
 
-  T-inv : Inv o m ts T
+  T-inv : Lost m ts o T
   unfolding T
-  T-inv = ran o m ts (R .grows) (R .fits) all-good (at-first o m ts (R .grows) (R .fits)) (whole (steps (apply m ts)) o)
+  T-inv = ran m ts all-good (R .grows) (R .fits) (whole (steps (apply m ts)) o) .1
 
-  closed-inv : (f : File) → Closed f → Inv o m ts f
+  closed-inv : (f : File) → Closed f → Lost m ts o f
   unfolding Closed
   closed-inv f a =
       record {
-        capacity = a .capacity ∙ T-inv .capacity;
-        longer = omega (arith, a .size-f, R .grows);
-        within = omega (arith, a .size-f);
-        rest = λ i l n. a .rest i (omega (arith, a .size-f)) (λ x. x) ∙ T-inv .rest i (omega (arith, a .size-f, a .size-g)) n;
+        from = omega (arith, a .size-f, R .grows);
+        to = omega (arith, a .size-f);
+        given = λ i l n. a .rest i (omega (arith, R .grows)) (λ x. x) ∙ T-inv .given i l n;
+        zeros = λ i l u n. a .rest i (omega (arith, a .size-f)) (λ x. x) ∙ T-inv .zeros i l (omega (arith, a .size-f, a .size-g)) n;
+        capacity = λ x. a .big-f;
       }
 
   -- the header is the last that is written
@@ -287,8 +292,8 @@ module _ (identifier : List ℕ) (sixteen : length identifier ≡ 16) (o : File)
   T-slot : slotIn T other ≡ closedHeader (slotIn o (h .slot)) identifier
   T-slot =
       let low = slots-low (slots-of identifier o h k e) in
-      let b : MiB ≤ length (T .buffer) = omega (arith, holds-MiB, T-inv .capacity) in
-      let fits : c .offset + length (c .bytes) ≤ length (target (length ss) .buffer) = omega (arith, c-ends, holds-MiB, target-long (length ss) (omega arith)) in
+      let b : MiB ≤ length (T .buffer) = holds-MiB T (T-inv .capacity (R .fits)) in
+      let fits : c .offset + length (c .bytes) ≤ length (target (length ss) .buffer) = omega (arith, c-ends, holds-MiB o (R .fits), target-long (length ss) (omega arith)) in
       slot-part (T .buffer) (otherSlot (h .slot)) (low .3) b
       ∙ ap (λ (f : File). take 4096 (drop (otherSlot (h .slot)) (f .buffer))) T-last
       ∙ ap (λ (n : ℕ). take n (drop (c .offset) (put (target (length ss) .buffer) (c .offset) (c .bytes)))) (sym c-long)
@@ -302,7 +307,7 @@ module _ (identifier : List ℕ) (sixteen : length identifier ≡ 16) (o : File)
   unfolding Closed
   closed-slot f a =
       let low = slots-low (slots-of identifier o h k e) in
-      slot-same (T .buffer) (f .buffer) (otherSlot (h .slot)) (a .capacity) (low .3) (omega (arith, holds-MiB, T-inv .capacity))
+      slot-same (T .buffer) (f .buffer) (otherSlot (h .slot)) (low .3) (holds-MiB f (a .big-f)) (holds-MiB T (a .big-g))
       (λ i x y. a .rest i (omega (arith, low .3, large, R .grows)) (λ z. z))
       ∙ T-slot
 
@@ -315,23 +320,23 @@ module _ (identifier : List ℕ) (sixteen : length identifier ≡ 16) (o : File)
 
     open-current : (n : ℕ) (f : File) → Open n f → currentHeader (f .buffer) (f .size) ≡ Current h
     unfolding Dormant
-    open-current n f q = still-current identifier o h k e f (q .inv .capacity) (q .inv .longer) (q .inv .within) (untouched f (q .inv)) (q .dormant)
+    open-current n f q = still-current identifier o h k e f (q .inv .capacity (R .fits)) (q .inv .from) (q .inv .to) (untouched f (q .inv)) (q .dormant)
 
     open-plan : (n : ℕ) (f : File) → Open n f → closePlan identifier f ≡ apply m ts
     unfolding Dormant
-    open-plan n f q = close-again identifier o h k e f (q .inv .capacity) (q .inv .longer) (q .inv .within) (untouched f (q .inv)) (q .dormant) ∙ plan-is
+    open-plan n f q = close-again identifier o h k e f (q .inv .capacity (R .fits)) (q .inv .from) (q .inv .to) (untouched f (q .inv)) (q .dormant) ∙ plan-is
 
     module _ (named-bytes : Bytes identifier) (bytes : Bytes (o .buffer)) where
       closed-plan : (f : File) → Closed f → closePlan identifier f ≡ apply m []
       closed-plan f q =
           let v = closed-inv f q in
-          close-done identifier o h k e f (v .capacity) (v .longer) (v .within) (untouched f v) sixteen named-bytes bytes raisable (closed-full f q) (closed-slot f q)
+          close-done identifier o h k e f (v .capacity (R .fits)) (v .from) (v .to) (untouched f v) sixteen named-bytes bytes raisable (closed-full f q) (closed-slot f q)
 
   -- ---- steps, one by one
 
   T-size : T .size ≡ m
   unfolding T
-  T-size = all-done (R .grows) (R .fits) ends (at-first o m ts (R .grows) (R .fits)) .size-g
+  T-size = all-done (R .grows) (R .fits) ends (nothing m ts (R .grows)) .size-g
 
   -- what an interruption may leave in the slot
   Settled : File → Type 0
@@ -345,7 +350,7 @@ module _ (identifier : List ℕ) (sixteen : length identifier ≡ 16) (o : File)
   unfolding Progress
   mild-torn s n f g d q t =
       record {
-        inv = keeps o m ts (R .grows) (R .fits) s (mild-good s d) (q .inv) t;
+        inv = both m ts (q .inv) (of-step m ts s (mild-good s d) (q .inv .to) t);
         dormant = dormant-on f g (mild-slot s f g d (q .inv) t) (q .dormant);
         progress = tt;
       }
@@ -367,19 +372,19 @@ module _ (identifier : List ℕ) (sixteen : length identifier ≡ 16) (o : File)
         right [] i x = inl x
         right (u ∷ us) i x = inr (right us i x)
 
-    torn-inv : Inv o m ts g
-    torn-inv = keeps o m ts (R .grows) (R .fits) (write c) c-good (q .inv) t
+    torn-inv : Lost m ts o g
+    torn-inv = both m ts (q .inv) (of-step m ts (write c) c-good (q .inv .to) t)
 
     torn-done : slotIn g other ≡ closedHeader (slotIn o (h .slot)) identifier → Closed g
     unfolding Closed
     torn-done w =
         let low = slots-low (slots-of identifier o h k e) in
-        let bg : MiB ≤ length (g .buffer) = omega (arith, holds-MiB, torn-inv .capacity) in
-        let bT : MiB ≤ length (T .buffer) = omega (arith, holds-MiB, T-inv .capacity) in
-        let bG : end c ≤ length (G .buffer) = omega (arith, a .big, c-ends, large, R .grows) in
+        let bg : MiB ≤ length (g .buffer) = holds-MiB g (torn-inv .capacity (R .fits)) in
+        let bT : MiB ≤ length (T .buffer) = holds-MiB T (T-inv .capacity (R .fits)) in
+        let bG : end c ≤ length (G .buffer) = omega (arith, a .big-g, c-ends, large, R .grows) in
         record {
-          capacity = torn-inv .capacity ∙ sym (T-inv .capacity);
-          big = omega (arith, R .fits, T-inv .capacity);
+          big-f = torn-inv .capacity (R .fits);
+          big-g = T-inv .capacity (R .fits);
           size-f = t .same-size ∙ a .size-f;
           size-g = T-size;
           rest = λ i l z.
@@ -413,7 +418,7 @@ module _ (identifier : List ℕ) (sixteen : length identifier ≡ 16) (o : File)
   grow-done : (n : ℕ) (f : File) → Open n f → Open (suc zero) (run (grow m) f)
   unfolding Progress target
   grow-done n f q =
-      let x = mild-torn (grow m) n f (run (grow m) f) grow-mild q (done o m ts (R .grows) (R .fits) (grow m) refl (q .inv)) in
+      let x = mild-torn (grow m) n f (run (grow m) f) grow-mild q (done m ts (grow m) f refl (q .inv .to) (q .inv .capacity (R .fits))) in
       record { inv = x .inv; dormant = x .dormant; progress = (omega arith, grown-alike (R .grows) (R .fits) ends (q .inv)) }
 
   next-agree : (j : ℕ) (f : File) → j ≤ length ss → Agree m (drop j ts) f (target j) → Agree m (drop (suc j) ts) (run (write (nth j)) f) (target (suc j))
@@ -428,7 +433,7 @@ module _ (identifier : List ℕ) (sixteen : length identifier ≡ 16) (o : File)
       (λ b.
       let own-j = nth-own j b in
       let d = write-mild (nth j) own-j in
-      let x = mild-torn (write (nth j)) n f (run (write (nth j)) f) d q (done o m ts (R .grows) (R .fits) (write (nth j)) (mild-good (write (nth j)) d) (q .inv)) in
+      let x = mild-torn (write (nth j)) n f (run (write (nth j)) f) d q (done m ts (write (nth j)) f (mild-good (write (nth j)) d) (q .inv .to) (q .inv .capacity (R .fits))) in
       inl record { inv = x .inv; dormant = x .dormant; progress = (omega arith, next-agree j f (p .0) (p .1)) })
       (λ b.
       let at-end : j ≡ length ss = omega (arith, p .0) in
@@ -484,7 +489,7 @@ module _ (identifier : List ℕ) (sixteen : length identifier ≡ 16) (o : File)
       (ran-cons r)
   writes-ran (s ∷ b) n f g G own-b q a last w r =
       let d = write-mild s (own-b .0) in
-      let t₀ = done o m ts (R .grows) (R .fits) (write s) (mild-good (write s) d) (q .inv) in
+      let t₀ = done m ts (write s) f (mild-good (write s) d) (q .inv .to) (q .inv .capacity (R .fits)) in
       ⊎-elim
       (λ x. inl (subst (Open zero) (sym x) (weaken n f q)))
       (λ x.
@@ -546,8 +551,8 @@ module _ (identifier : List ℕ) (sixteen : length identifier ≡ 16) (o : File)
   unfolding Closed
   closed-torn f g a t =
       record {
-        capacity = t .capacity ∙ a .capacity;
-        big = a .big;
+        big-f = omega (arith, t .capacity, a .big-f);
+        big-g = a .big-g;
         size-f = omega (arith, t .from, t .to, a .size-f);
         size-g = a .size-g;
         rest = λ i l z. t .given i (omega (arith, a .size-f)) ∙ a .rest i l z;
@@ -555,7 +560,7 @@ module _ (identifier : List ℕ) (sixteen : length identifier ≡ 16) (o : File)
 
   closed-grown : (f : File) → Closed f → Closed (run (grow m) f)
   unfolding Closed
-  closed-grown f a = closed-torn f (run (grow m) f) a (done o m ts (R .grows) (R .fits) (grow m) refl (closed-inv f a))
+  closed-grown f a = closed-torn f (run (grow m) f) a (done m ts (grow m) f refl (omega (arith, a .size-f)) (a .big-f))
 
   closed-ran : (f g : File) → Closed f → Ran (grow m ∷ []) f g → Closed g
   closed-ran f g a r =
@@ -580,7 +585,7 @@ module _ (identifier : List ℕ) (sixteen : length identifier ≡ 16) (o : File)
         let u = subst (λ (x : Answer). WholeBy x identifier f g) (open-current log raisable n f q) w in
         ⊎-elim
         (λ x. inl (x ∙ q .dormant (sym (ap validHeader x) ∙ v)))
-        (λ x. inr (x ∙ ap (λ (y : List ℕ). closedHeader y identifier) (current-kept identifier o h k e f (q .inv .capacity) (q .inv .longer) (q .inv .within) (untouched f (q .inv)))))
+        (λ x. inr (x ∙ ap (λ (y : List ℕ). closedHeader y identifier) (current-kept identifier o h k e f (q .inv .capacity (R .fits)) (q .inv .from) (q .inv .to) (untouched f (q .inv)))))
         (u v)
 
     -- a close that is run to its end
@@ -613,42 +618,111 @@ module _ (identifier : List ℕ) (sixteen : length identifier ≡ 16) (o : File)
     whole-closed n f (inl q) = inr (open-closed n f q)
     whole-closed n f (inr q) = inr (closed-closed f q)
 
+    -- ---- histories
+
+    called-on : {n n′ : ℕ} {f g : File} → State n f → Call identifier n f n′ g → State n′ g
+    called-on {n} {f = f} q close = whole-closed n f q
+    called-on {n} {f = f} q (step j b) = stepped n j f b q
+    called-on {n} {f = f} q (refuse j x r) = subst (State n) (sym (refused-same identifier j x f r)) q
+    called-on {n} {f = f} {g = g} q (interrupted-close r w) = interrupted-closed n f g q r w
+    called-on {n} {f = f} {g = g} q (interrupted-step j b r w) = interrupted-stepped n j f g b q r w
+
+    failed-on : (n : ℕ) (f g : File) → State n f → Failed identifier f g → State zero g
+    unfolding State Closed Progress
+    failed-on n f g (inl q) (sectors-lost l s) =
+        inl record {
+          inv = both m ts (q .inv) (rw (open-plan log raisable n f q) at l);
+          dormant = dormant-on f g (subst (λ (x : Answer). SlotKeptBy x f g) (open-current log raisable n f q) s) (q .dormant);
+          progress = tt;
+        }
+    failed-on n f g (inr a) (sectors-lost l s) =
+        let x : Lost m [] f g = rw (closed-plan log raisable named-bytes bytes f a) at l in
+        inr record {
+          big-f = x .capacity (a .big-f);
+          big-g = a .big-g;
+          size-f = omega (arith, x .from, x .to, a .size-f);
+          size-g = a .size-g;
+          rest = λ i b z. x .given i (omega (arith, a .size-f)) (λ y. y) ∙ a .rest i b z;
+        }
+    failed-on n f g q (header-lost r w) = interrupted-closed n f g q r w
+
+    reopened-agree : (us : List Sector) {f g G : File} → m ≤ length (g .buffer) → Reopened f g → Agree m us f G → Agree m us g G
+    reopened-agree us fits x a =
+        record {
+          big-f = fits;
+          big-g = a .big-g;
+          size-f = x .same-size ∙ a .size-f;
+          size-g = a .size-g;
+          rest = λ i l n. x .same-bytes i (omega (arith, a .size-f)) ∙ a .rest i l n;
+        }
+
+    reopened-progress : (n : ℕ) (f g : File) → m ≤ length (g .buffer) → Reopened f g → Progress n f → Progress n g
+    unfolding Progress
+    reopened-progress zero f g fits x p = tt
+    reopened-progress (suc j) f g fits x p = (p .0, reopened-agree (drop j ts) fits x (p .1))
+
+    reopened-open : (n : ℕ) (f g : File) → Open n f → Reopened f g → Open n g
+    unfolding Dormant
+    reopened-open n f g q x =
+        let v = q .inv in
+        let plan : planOf f ≡ apply m ss = plan-still identifier o h k e f (v .capacity (R .fits)) (v .from) (v .to) (untouched f v) (q .dormant) in
+        let fits : m ≤ length (g .buffer) = rw plan at (x .capacity) in
+        let low = slots-low (slots-of identifier o h k e) in
+        record {
+          inv = both m ts v (reopened-lost m ts (v .to) fits x);
+          dormant = dormant-on f g
+              (slot-same (f .buffer) (g .buffer) (otherSlot (h .slot)) (low .3) (holds-MiB g fits) (holds-MiB f (v .capacity (R .fits)))
+              (λ i a b. x .same-bytes i (omega (arith, large, v .from, low .3))))
+              (q .dormant);
+          progress = reopened-progress n f g fits x (q .progress);
+        }
+
+    closed-gone : (f : File) → Closed f → HasNoLog f
+    closed-gone f q =
+        let v = closed-inv f q in
+        gone identifier o h k e f (v .capacity (R .fits)) (v .from) (v .to) (untouched f v) sixteen named-bytes bytes raisable (closed-full f q) (closed-slot f q)
+
+    reopened-on : (n : ℕ) (f g : File) → State n f → Reopened f g → State n g
+    unfolding State Closed
+    reopened-on n f g (inl q) x = inl (reopened-open n f g q x)
+    reopened-on n f g (inr a) x =
+        let final : f .size ≤ length (g .buffer) = rw (closed-gone f a .no-work) at (x .capacity) in
+        inr (reopened-agree [] (omega (arith, final, a .size-f)) x a)
+
+    -- of the file as it was flushed last, and of the file as it is
     ended : (n : ℕ) (f : File) → State n f → State zero f
     unfolding State
     ended n f (inl q) = inl (weaken n f q)
     ended n f (inr q) = inr q
 
-    after : {n : ℕ} {f g : File} → State n f → Calls identifier n f g → State zero g
-    after {n} {f} q none = ended n f q
-    after {n} {f} q (close cs) = after (whole-closed n f q) cs
-    after {n} {f} q (step j b cs) = after (stepped n j f b q) cs
-    after {n} {f} q (refuse j x r cs) = after (subst (State n) (sym (refused-same identifier j x f r)) q) cs
-    after {n} {f} q (interrupted-close {g = g} r w cs) = after (interrupted-closed n f g q r w) cs
-    after {n} {f} q (interrupted-step {g = g} j b r w cs) = after (interrupted-stepped n j f g b q r w) cs
-
-    at-the-end : (f : File) → Calls identifier zero o f → State zero f
+    after : {n : ℕ} {d f : File} → History identifier o d n f → State zero d × State n f
     unfolding State
-    at-the-end f cs = after (inl start) cs
+    after original = (inl start, inl start)
+    after (called x y) = let q = after x in (q .0, called-on (q .1) y)
+    after (lost {f = f} {g = g} {e = j} x y) = let q = after x in (q .0, failed-on j f g (q .1) y)
+    after (reopened {f = f} {g = g} {e = j} x y) = let q = after x in (q .0, reopened-on j f g (q .1) y)
+    after {n} {f = f} (flushed x) = let q = after x in (ended n f (q .1), q .1)
+    after (failed {d = d} {g = g} x y) = let q = failed-on zero d g (after x .0) y in (q, q)
 
     whole-T : afterClose identifier o ≡ T
     unfolding afterClose T
     whole-T = ap (λ (p : Plan). runs (steps p) o) (plan-is log raisable)
 
-    kept-by : (f : File) → State zero f → Inv o m ts f
+    kept-by : (n : ℕ) (f : File) → State n f → Lost m ts o f
     unfolding State
-    kept-by f (inl q) = q .inv
-    kept-by f (inr q) = closed-inv f q
+    kept-by n f (inl q) = q .inv
+    kept-by n f (inr q) = closed-inv f q
 
-    closes-alike : (f : File) → State zero f → Agree m [] (afterClose identifier f) (afterClose identifier o)
+    closes-alike : (n : ℕ) (f : File) → State n f → Agree m [] (afterClose identifier f) (afterClose identifier o)
     unfolding State Closed
-    closes-alike f (inl q) = subst (Agree m [] (afterClose identifier f)) (sym whole-T) (open-closed zero f q)
-    closes-alike f (inr q) = subst (Agree m [] (afterClose identifier f)) (sym whole-T) (closed-closed f q)
+    closes-alike n f (inl q) = subst (Agree m [] (afterClose identifier f)) (sym whole-T) (open-closed n f q)
+    closes-alike n f (inr q) = subst (Agree m [] (afterClose identifier f)) (sym whole-T) (closed-closed f q)
 
-    -- what every list of calls keeps, and what one more close then leaves
-    pub closed-by-calls : (f : File) → Calls identifier zero o f → Inv o m (ss ++ (headerSector identifier o h ∷ [])) f × Agree m [] (afterClose identifier f) (afterClose identifier o)
-    closed-by-calls f cs = (kept-by f (at-the-end f cs), closes-alike f (at-the-end f cs))
+    -- what every history leaves, and what one more close then leaves
+    pub closed-after : {n : ℕ} {d f : File} → History identifier o d n f → Lost m (ss ++ (headerSector identifier o h ∷ [])) o f × Agree m [] (afterClose identifier f) (afterClose identifier o)
+    closed-after {n} {d} {f} x = let q = after x .1 in (kept-by n f q, closes-alike n f q)
 
     -- the log is gone
     pub for-good : HasNoLog (afterClose identifier o)
     unfolding Closed
-    for-good = rw whole-T (gone identifier o h k e T (T-inv .capacity) (T-inv .longer) (T-inv .within) (untouched T T-inv) sixteen named-bytes bytes raisable T-size T-slot)
+    for-good = rw whole-T (gone identifier o h k e T (T-inv .capacity (R .fits)) (T-inv .from) (T-inv .to) (untouched T T-inv) sixteen named-bytes bytes raisable T-size T-slot)

@@ -12,9 +12,9 @@ use Rattle.vhdx_header.specs.declared.Answer.{Answer as HeaderAnswer}
 use Rattle.vhdx_header.specs.declared.Answer.the-variants.{Refused as HeaderRefused, Current}
 use Rattle.vhdx_header.specs.Header.{validHeader}
 use Rattle.vhdx_header.specs.Current.{currentHeader, otherSlot}
-use Rattle.vhdx_replay.specs.Steps.{File, Ran, steps, chosen, single}
+use Rattle.vhdx_steps.specs.Steps.{File, Ran, steps, chosen, single}
 use Rattle.vhdx_rewrite.specs.Rewrite.{closedHeader}
-use Rattle.vhdx_close.specs.Close.{slotIn, closePlan, afterClose, afterCloseStep}
+use Rattle.vhdx_close_steps.specs.Close.{slotIn, closePlan, afterClose, afterCloseStep}
 
 -- "the premise that a half-written header isn't valid", of an interrupted call that takes f to g: where the slot of the header that
 -- isn't current in f holds a valid one in g, it is a whole one, the one that was there or the one that closing writes
@@ -27,13 +27,17 @@ WholeBy (Current h) identifier f g =
 abbrev pub WholeIfValid : List ℕ → File → File → Type 0
 WholeIfValid identifier f g = WholeBy (currentHeader (f .buffer) (f .size)) identifier f g
 
--- any list of calls, each on what the one before left. e is the number of the step that is next in order: 0 at the start and after each
+-- a call takes f to g, and the number of the step that is next in order from e to the one behind g: 0 at the start and after each
 -- interruption. A step that was done already may be done again; those behind it are then to be done again too
+pub data Call (identifier : List ℕ) (e : ℕ) (f : File) : ℕ → File → Type 0 where
+  close : Call identifier e f e (afterClose identifier f)
+  step : (k : ℕ) → k ≤ e → Call identifier e f (suc k) (afterCloseStep identifier k f)
+  -- a step that is refused, whatever its number
+  refuse : (k c : ℕ) → chosen (closePlan identifier f) k (f .size) ≡ refused c → Call identifier e f e (afterCloseStep identifier k f)
+  interrupted-close : {g : File} → Ran (steps (closePlan identifier f)) f g → WholeIfValid identifier f g → Call identifier e f zero g
+  interrupted-step : {g : File} (k : ℕ) → k ≤ e → Ran (single (closePlan identifier f) k (f .size)) f g → WholeIfValid identifier f g → Call identifier e f zero g
+
+-- any list of calls, each on what the one before left
 pub data Calls (identifier : List ℕ) : ℕ → File → File → Type 0 where
   none : {e : ℕ} {f : File} → Calls identifier e f f
-  close : {e : ℕ} {f h : File} → Calls identifier e (afterClose identifier f) h → Calls identifier e f h
-  step : {e : ℕ} {f h : File} (k : ℕ) → k ≤ e → Calls identifier (suc k) (afterCloseStep identifier k f) h → Calls identifier e f h
-  -- a step that is refused, whatever its number
-  refuse : {e : ℕ} {f h : File} (k c : ℕ) → chosen (closePlan identifier f) k (f .size) ≡ refused c → Calls identifier e (afterCloseStep identifier k f) h → Calls identifier e f h
-  interrupted-close : {e : ℕ} {f g h : File} → Ran (steps (closePlan identifier f)) f g → WholeIfValid identifier f g → Calls identifier zero g h → Calls identifier e f h
-  interrupted-step : {e : ℕ} {f g h : File} (k : ℕ) → k ≤ e → Ran (single (closePlan identifier f) k (f .size)) f g → WholeIfValid identifier f g → Calls identifier zero g h → Calls identifier e f h
+  then : {e e′ : ℕ} {f g h : File} → Call identifier e f e′ g → Calls identifier e′ g h → Calls identifier e f h

@@ -10,7 +10,7 @@ use lib.ListN.{length, getD, getElem?}
 use Rattle.decision.specs.Refusal.{Outcome, refused, answered, check}
 use Rattle.vhdx_walk.specs.Entries.{Sector}
 use Rattle.vhdx_log.specs.Work.{Plan, refused as unplanned, apply}
-use Rattle.vhdx_replay.specs.Buffer.{put, zeroed}
+use Rattle.vhdx_steps.specs.Buffer.{put, zeroed}
 
 -- a file in a buffer: the buffer's first `size` bytes
 pub record File : Type 0 where
@@ -67,6 +67,11 @@ pub data Ran : List Step → File → File → Type 0 where
   stop : {w : List Step} {f : File} → Ran w f f
   torn : {s : Step} {w : List Step} {f g : File} → Torn s f g → Ran (s ∷ w) f g
   next : {s : Step} {w : List Step} {f g : File} → Ran w (run s f) g → Ran (s ∷ w) f g
+
+-- the length that the log's work leads to, at 1 to 8 the given one
+abbrev pub lengthAfter : Plan → ℕ → ℕ
+lengthAfter (unplanned c) n = n
+lengthAfter (apply m ss) n = m
 
 -- the steps of attach: none where it is refused before
 abbrev pub steps : Plan → List Step

@@ -1,5 +1,5 @@
--- Demand 3 for closing, and that closing closes (change request Q-6). The premise that the log can be applied is stated by the plan here;
--- `vhdx` states it by document 01's table (specs/CloseSafety.antt there).
+-- Demand 3 for closing, power failures too, and that closing closes (change request Q-6). The premise that the log can be applied is
+-- stated by the plan here; `vhdx` states it by document 01's table (specs/CloseSafety.antt there).
 -- Assumes nothing.
 use mathlib.Core.List.{List, []}
 use mathlib.Core.Path.{_≡_}
@@ -12,17 +12,16 @@ use Rattle.vhdx_header.specs.declared.Answer.the-variants.{Current}
 use Rattle.vhdx_header.specs.Current.{currentHeader, otherSlot}
 use Rattle.vhdx_walk.specs.Entries.{Sector}
 use Rattle.vhdx_log.specs.Work.{apply, sectorsPlanned}
-use Rattle.vhdx_replay.specs.Steps.{File, Named}
-use Rattle.vhdx_replay.specs.Calls.{planOf}
+use Rattle.vhdx_steps.specs.Steps.{File, Named}
+use Rattle.vhdx_steps.specs.Calls.{planOf}
 use Rattle.vhdx_replay.specs.Planned.{logExtent}
 use Rattle.field.specs.Fields.{Bytes}
-use Rattle.vhdx_close.specs.Close.{closePlan, afterClose, afterCloseStep, closeAnswer}
-use Rattle.vhdx_close.specs.Calls.{Calls}
+use Rattle.vhdx_close_steps.specs.Close.{closePlan, afterClose, afterCloseStep, closeAnswer}
+use Rattle.vhdx_close_steps.specs.Calls.{Calls}
+use Rattle.vhdx_close_steps.specs.Failures.{History}
 
--- what holds of the file f that a list of calls left of the original o
+-- what holds of the file f that calls left of the original o
 pub record Recloses (identifier : List ℕ) (o f : File) : Type 0 where
-  -- document 01: "in the same room"
-  pub same-capacity : length (f .buffer) ≡ length (o .buffer)
   -- "only length and bytes compared": what one more close, undisturbed, leaves
   pub same-length : closeAnswer identifier f .length ≡ closeAnswer identifier o .length
   pub same-bytes : take (closeAnswer identifier f .length) (afterClose identifier f .buffer) ≡ take (closeAnswer identifier o .length) (afterClose identifier o .buffer)
@@ -34,12 +33,20 @@ pub record Recloses (identifier : List ℕ) (o f : File) : Type 0 where
       → (i : ℕ) → i < MiB → ¬ ((otherSlot (h .slot) ≤ i) × (i < otherSlot (h .slot) + 4096)) → getD (f .buffer) i 0 ≡ getD (o .buffer) i 0
   pub log-kept : part (f .buffer) (logExtent (o .buffer) (o .size)) ≡ part (o .buffer) (logExtent (o .buffer) (o .size))
 
--- the same identifier, of 16 bytes, for every call; 23 may apply, then nothing ever changes. Proved in proofs/Safety.antt
+-- the same identifier, of 16 bytes, for every call; 23 may apply, then nothing ever changes. Document 01: "in the same room". Proved in
+-- proofs/Safety.antt
 abbrev pub CloseSafe : Type 0
 CloseSafe =
     (identifier : List ℕ) → length identifier ≡ 16 → Bytes identifier
     → (o f : File) → Bytes (o .buffer) → (m : ℕ) (ss : List Sector) → planOf o ≡ apply m ss
-    → Calls identifier zero o f → Recloses identifier o f
+    → Calls identifier zero o f → (length (f .buffer) ≡ length (o .buffer)) × Recloses identifier o f
+
+-- and after every history of calls, flushes and power failures, in whatever buffers
+abbrev pub ClosePowerSafe : Type 0
+ClosePowerSafe =
+    (identifier : List ℕ) → length identifier ≡ 16 → Bytes identifier
+    → (o d f : File) (e : ℕ) → Bytes (o .buffer) → (m : ℕ) (ss : List Sector) → planOf o ≡ apply m ss
+    → History identifier o d e f → Recloses identifier o f
 
 -- document 01: "No call run to its end changes bytes past the final length."
 abbrev pub NothingBeyondClose : Type 0

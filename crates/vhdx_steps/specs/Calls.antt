@@ -4,7 +4,7 @@ use mathlib.Core.List.{List}
 use Prim.Native.Nat.{ℕ}
 use Rattle.vhdx_log.specs.Work.{Plan}
 use Rattle.vhdx_log.specs.Plan.{plan}
-use Rattle.vhdx_replay.specs.Steps.{File, Ran, steps, single}
+use Rattle.vhdx_steps.specs.Steps.{File, Ran, lengthAfter, steps, single}
 
 -- the first n bytes of a buffer
 abbrev pub file : List ℕ → ℕ → File
@@ -13,6 +13,10 @@ file buffer n = record { buffer = buffer; size = n }
 -- what the headers and the log say of a file
 abbrev pub planOf : File → Plan
 planOf f = plan (f .buffer) (f .size)
+
+-- the length to which the log's work leads a file
+abbrev pub finalLengthOf : File → ℕ
+finalLengthOf f = lengthAfter (planOf f) (f .size)
 
 -- a call takes f to g: an attach, or a step with any k
 pub data Call (f g : File) : Type 0 where

@@ -31,11 +31,11 @@ use Rattle.vhdx_log.specs.Work.{finalLength, someLies, refused, apply, applyWit
 use Rattle.vhdx_log.specs.Plan.{logBytes, extentOf, planSequence, planLog, planHeader, plan}
 use Rattle.vhdx_log.proofs.Answering.{plan-refused, log-placed}
 use Rattle.vhdx_log.proofs.Again.{passed, plan-again}
-use Rattle.vhdx_replay.specs.Steps.{File}
-use Rattle.vhdx_replay.specs.Calls.{planOf}
-use Rattle.vhdx_replay.proofs.Bytes.{part-long}
-use Rattle.vhdx_replay.proofs.Restart.{EndBy, Reads}
-use Rattle.vhdx_replay.proofs.Sectors.{AllSized, entries-sized, Whole, all-whole, all-end, Kept, none-kept}
+use Rattle.vhdx_steps.specs.Steps.{File}
+use Rattle.vhdx_steps.specs.Calls.{planOf}
+use Rattle.vhdx_steps.proofs.Bytes.{part-long}
+use Rattle.vhdx_steps.proofs.Restart.{EndBy, Reads}
+use Rattle.vhdx_steps.proofs.Sectors.{AllSized, entries-sized, Whole, all-whole, all-end, Kept, none-kept}
 
 -- ---- what a plan that applies says of its sectors
 
@@ -93,21 +93,21 @@ of-log h bytes n capacity {m} {ss} whole e = go (eqb (number (h .«log_guid»)) 
 
 -- ---- parts of two buffers that agree there
 
-pub same-part : (a n : ℕ) (r r′ : List ℕ) → length r′ ≡ length r → a + n ≤ length r → ((i : ℕ) → a ≤ i → i < a + n → getD r′ i 0 ≡ getD r i 0) → take n (drop a r′) ≡ take n (drop a r)
-same-part a n r r′ e h s =
-    ext-getD 0 (take n (drop a r′)) (take n (drop a r)) (part-long r′ a n (omega arith) ∙ sym (part-long r a n h))
+pub same-part : (a n : ℕ) (r r′ : List ℕ) → a + n ≤ length r′ → a + n ≤ length r → ((i : ℕ) → a ≤ i → i < a + n → getD r′ i 0 ≡ getD r i 0) → take n (drop a r′) ≡ take n (drop a r)
+same-part a n r r′ h′ h s =
+    ext-getD 0 (take n (drop a r′)) (take n (drop a r)) (part-long r′ a n h′ ∙ sym (part-long r a n h))
     (λ i l.
-    let k : i < n = omega (arith, part-long r′ a n (omega arith)) in
+    let k : i < n = omega (arith, part-long r′ a n h′) in
     getD-take n (drop a r′) i 0 k ∙ getD-drop a r′ i 0 ∙ s (a + i) (omega arith) (omega arith) ∙ sym (getD-take n (drop a r) i 0 k ∙ getD-drop a r i 0))
 
-pub same-first : (r r′ : List ℕ) → length r′ ≡ length r → MiB ≤ length r → ((i : ℕ) → i < MiB → getD r′ i 0 ≡ getD r i 0) → firstMiB r′ ≡ firstMiB r
+pub same-first : (r r′ : List ℕ) → MiB ≤ length r′ → MiB ≤ length r → ((i : ℕ) → i < MiB → getD r′ i 0 ≡ getD r i 0) → firstMiB r′ ≡ firstMiB r
 unfolding firstMiB
-same-first r r′ e h s = same-part 0 MiB r r′ e h (λ i a b. s i b)
+same-first r r′ h′ h s = same-part 0 MiB r r′ h′ h (λ i a b. s i b)
 
-same-log : (h : Header) (r r′ : List ℕ) → length r′ ≡ length r → h .«log_offset» + h .«log_length» ≤ length r
+same-log : (h : Header) (r r′ : List ℕ) → h .«log_offset» + h .«log_length» ≤ length r′ → h .«log_offset» + h .«log_length» ≤ length r
     → ((i : ℕ) → h .«log_offset» ≤ i → i < h .«log_offset» + h .«log_length» → getD r′ i 0 ≡ getD r i 0) → logBytes h r′ ≡ logBytes h r
 unfolding logBytes
-same-log h r r′ e b s = same-part (h .«log_offset») (h .«log_length») r r′ e b s
+same-log h r r′ b′ b s = same-part (h .«log_offset») (h .«log_length») r r′ b′ b s
 
 -- ---- the plan of a file
 
@@ -127,13 +127,13 @@ module _ (o : File) (h : Header) (k : currentHeader (o .buffer) (o .size) ≡ Cu
       of-log h (logBytes h (o .buffer)) (o .size) (length (o .buffer)) (omega (arith, placed .0)) (ap (λ (a : Answer). planHeader a (o .buffer) (o .size)) (sym k) ∙ e)
 
   -- any header that is current is the one
-  log-kept : (g : File) → length (g .buffer) ≡ length (o .buffer) → ((i : ℕ) → Kept (extentOf h) i → getD (g .buffer) i 0 ≡ getD (o .buffer) i 0)
+  log-kept : (g : File) → m ≤ length (g .buffer) → ((i : ℕ) → Kept (extentOf h) i → getD (g .buffer) i 0 ≡ getD (o .buffer) i 0)
       → (h′ : Header) → Current h ≡ Current h′ → logBytes h′ (g .buffer) ≡ logBytes h′ (o .buffer)
-  log-kept g capacity s h′ q =
+  log-kept g fits s h′ q =
       let same : h ≡ h′ = cc q in
       let a = accepted (o .buffer) (o .size) k in
       subst (λ (x : Header). logBytes x (g .buffer) ≡ logBytes x (o .buffer)) same
-      (same-log h (o .buffer) (g .buffer) capacity (omega (arith, a .inside, a .fits)) (λ i b c. s i (inr (b, c))))
+      (same-log h (o .buffer) (g .buffer) (omega (arith, a .inside, applied .grows, fits)) (omega (arith, a .inside, a .fits)) (λ i b c. s i (inr (b, c))))
 
   pub reads : Reads (Kept (extentOf h)) o m ss
   reads =
@@ -145,9 +145,8 @@ module _ (o : File) (h : Header) (k : currentHeader (o .buffer) (o .size) ≡ Cu
         ends = p .ends;
         inside = λ i x. ⊎-elim (λ y. omega (arith, a .holds-first)) (λ y. omega (arith, a .inside)) x;
         apart = none-kept (extentOf h) ss (p .whole) (p .clear);
-        again = λ g capacity longer below s.
-            plan-again (o .buffer) (g .buffer) longer below capacity
-            (same-first (o .buffer) (g .buffer) capacity (omega (arith, a .holds-first, a .fits)) (λ i b. s i (inl b)))
-            (λ h′ k′. log-kept g capacity s h′ (sym k ∙ k′))
+        again = λ g fits longer below s.
+            plan-again (o .buffer) (g .buffer) longer below fits (λ h′ k′. log-kept g fits s h′ (sym k ∙ k′))
+            (same-first (o .buffer) (g .buffer) (omega (arith, a .holds-first, p .grows, fits)) (omega (arith, a .holds-first, a .fits)) (λ i b. s i (inl b)))
             e;
       }

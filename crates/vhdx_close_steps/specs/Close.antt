@@ -14,11 +14,11 @@ use Rattle.vhdx_header.specs.declared.Answer.the-variants.{Refused as HeaderRef
 use Rattle.vhdx_header.specs.Current.{headerAt, firstMiB, currentHeader, otherSlot}
 use Rattle.vhdx_walk.specs.Entries.{Sector}
 use Rattle.vhdx_log.specs.Work.{Plan, refused, apply, count}
-use Rattle.vhdx_replay.specs.declared.Stepped.{Stepped}
-use Rattle.vhdx_replay.specs.Steps.{File, runs, steps, chosen, single}
-use Rattle.vhdx_replay.specs.Calls.{planOf}
+use Rattle.vhdx_steps.specs.declared.Stepped.{Stepped}
+use Rattle.vhdx_steps.specs.Steps.{File, runs, steps, chosen, single}
+use Rattle.vhdx_steps.specs.Calls.{planOf}
 use Rattle.vhdx_rewrite.specs.Rewrite.{greatest, closedHeader}
-use Rattle.vhdx_close.specs.declared.Closed.{Closed}
+use Rattle.vhdx_close_steps.specs.declared.Closed.{Closed}
 
 -- the header at an offset of a file
 abbrev pub slotIn : File → ℕ → List ℕ

@@ -25,25 +25,25 @@ use Rattle.vhdx_walk.specs.Entries.{Sector, lengthLimit}
 use Rattle.vhdx_log.specs.Work.{apply, applyWithin}
 use Rattle.vhdx_log.specs.Plan.{logBytes, extentOf, planLog, planHeader, plan}
 use Rattle.vhdx_log.proofs.Again.{plan-again-by}
-use Rattle.vhdx_replay.specs.Steps.{File}
-use Rattle.vhdx_replay.specs.Calls.{planOf}
-use Rattle.vhdx_replay.proofs.Bytes.{part-long}
-use Rattle.vhdx_replay.proofs.Reading.{applied, same-part}
-use Rattle.vhdx_replay.proofs.Sectors.{Kept}
+use Rattle.vhdx_steps.specs.Steps.{File}
+use Rattle.vhdx_steps.specs.Calls.{planOf}
+use Rattle.vhdx_steps.proofs.Bytes.{part-long}
+use Rattle.vhdx_steps.proofs.Reading.{applied, same-part}
+use Rattle.vhdx_steps.proofs.Sectors.{Kept}
 use Rattle.vhdx_rewrite.specs.Rewrite.{closedHeader}
 use Rattle.vhdx_rewrite.specs.Rewrite.{greatest}
-use Rattle.vhdx_close.specs.Close.{slotIn, closePlan}
-use Rattle.vhdx_close.specs.Safety.{HasNoLog}
+use Rattle.vhdx_close_steps.specs.Close.{slotIn, closePlan}
+use Rattle.vhdx_close_steps.specs.Safety.{HasNoLog}
 use Rattle.vhdx_rewrite.proofs.Parts.{starts-same}
 use Rattle.vhdx_rewrite.proofs.Slots.{slots-low, slots-apart, slots-back, slots-turned, slot-part, slot-same}
 use Rattle.vhdx_rewrite.proofs.Rewriting.{closed-number, closed-guid, closed-rest, closed-valid, closed-rules}
 
-begins-same : (b b′ : List ℕ) → length b′ ≡ length b → MiB ≤ length b → ((i : ℕ) → i < 8 → getD b′ i 0 ≡ getD b i 0)
+begins-same : (b b′ : List ℕ) → MiB ≤ length b′ → MiB ≤ length b → ((i : ℕ) → i < 8 → getD b′ i 0 ≡ getD b i 0)
     → starts (firstMiB b′) vhdxfile ≡ starts (firstMiB b) vhdxfile
 unfolding firstMiB
-begins-same b b′ e h s =
+begins-same b b′ h′ h s =
     starts-same (take MiB b) (take MiB b′) vhdxfile
-    (take-take 8 MiB b′ (omega arith) ∙ same-part 0 8 b b′ e (omega arith) (λ i l u. s i u) ∙ sym (take-take 8 MiB b (omega arith)))
+    (take-take 8 MiB b′ (omega arith) ∙ same-part 0 8 b b′ (omega arith) (omega arith) (λ i l u. s i u) ∙ sym (take-take 8 MiB b (omega arith)))
 
 -- ---- a file whose plan applies
 
@@ -67,18 +67,21 @@ module _ (identifier : List ℕ) (o : File) (h : Header) (k : currentHeader (o .
   abbrev pub KeptHere : ℕ → Type 0
   KeptHere i = Kept (extentOf h) i × ¬ ((otherSlot (h .slot) ≤ i) × (i < otherSlot (h .slot) + 4096))
 
-  module _ (f : File) (capacity : length (f .buffer) ≡ length (o .buffer)) (longer : o .size ≤ f .size) (below : f .size ≤ m)
+  module _ (f : File) (fits : m ≤ length (f .buffer)) (longer : o .size ≤ f .size) (below : f .size ≤ m)
       (s : (i : ℕ) → KeptHere i → getD (f .buffer) i 0 ≡ getD (o .buffer) i 0) where
+    large-now : MiB ≤ length (f .buffer)
+    large-now = omega (arith, accepted (o .buffer) (o .size) k .holds-first, longer, below, fits)
+
     pub current-kept : slotIn f (h .slot) ≡ slotIn o (h .slot)
     current-kept =
         let low = slots-low slots-of in
-        slot-same (o .buffer) (f .buffer) (h .slot) capacity (low .1) large
+        slot-same (o .buffer) (f .buffer) (h .slot) (low .1) large-now large
         (λ i a b. s i (inl (omega (arith, low .1)), λ x. ⊎-elim (λ y. omega (arith, x .0)) (λ y. omega (arith, x .1)) (slots-apart slots-of)))
 
     begins : starts (firstMiB (f .buffer)) vhdxfile ≡ true
     begins =
         let low = slots-low slots-of in
-        begins-same (o .buffer) (f .buffer) capacity large (λ i a. s i (inl (omega arith), λ x. omega (arith, x .0, low .2)))
+        begins-same (o .buffer) (f .buffer) large-now large (λ i a. s i (inl (omega arith), λ x. omega (arith, x .0, low .2)))
         ∙ stands .begins
 
     log-same : logBytes h (f .buffer) ≡ logBytes h (o .buffer)
@@ -86,7 +89,7 @@ module _ (identifier : List ℕ) (o : File) (h : Header) (k : currentHeader (o .
     log-same =
         let a = accepted (o .buffer) (o .size) k in
         let low = slots-low slots-of in
-        same-part (h .«log_offset») (h .«log_length») (o .buffer) (f .buffer) capacity (omega (arith, a .inside, a .fits))
+        same-part (h .«log_offset») (h .«log_length») (o .buffer) (f .buffer) (omega (arith, a .inside, longer, below, fits)) (omega (arith, a .inside, a .fits))
         (λ i from to. s i (inr (from, to), λ x. omega (arith, x .1, low .3, a .placed .start)))
 
     -- ---- the header is not yet written: what stands in its slot is what stood there, or is not valid
@@ -107,19 +110,16 @@ module _ (identifier : List ℕ) (o : File) (h : Header) (k : currentHeader (o .
             same = ap (contents (h .slot)) current-kept ∙ stands .same;
           }
 
-      fits-now : f .size ≤ length (f .buffer)
-      fits-now = omega (arith, applied o h k e .fits)
-
       pub still-current : currentHeader (f .buffer) (f .size) ≡ Current h
       still-current =
           let a = accepted (o .buffer) (o .size) k in
-          current-by (f .buffer) (f .size) h fits-now (omega (arith, a .holds-first)) (omega (arith, a .inside)) stands-still
+          current-by (f .buffer) (f .size) h (omega arith) (omega (arith, a .holds-first)) (omega (arith, a .inside)) stands-still
 
-      plan-still : planOf f ≡ apply m ss
+      pub plan-still : planOf f ≡ apply m ss
       plan-still =
-          plan-again-by (o .buffer) (f .buffer) longer below capacity
-          (λ h′ k′ fits. let same : h ≡ h′ = cc (sym k ∙ k′) in still-current ∙ ap Current same)
+          plan-again-by (o .buffer) (f .buffer) longer below fits
           (λ h′ k′. let same : h ≡ h′ = cc (sym k ∙ k′) in subst (λ (x : Header). logBytes x (f .buffer) ≡ logBytes x (o .buffer)) same log-same)
+          (λ h′ k′. let same : h ≡ h′ = cc (sym k ∙ k′) in still-current ∙ ap Current same)
           e
 
       pub close-again : closePlan identifier f ≡ closePlan identifier o
@@ -169,7 +169,7 @@ module _ (identifier : List ℕ) (o : File) (h : Header) (k : currentHeader (o .
       new-current : currentHeader (f .buffer) (f .size) ≡ Current now-current
       new-current =
           let a = accepted (o .buffer) (o .size) k in
-          current-by (f .buffer) (f .size) now-current (omega (arith, applied o h k e .fits)) (omega (arith, a .holds-first))
+          current-by (f .buffer) (f .size) now-current (omega arith) (omega (arith, a .holds-first))
           (omega (arith, a .inside, same-place .0, same-place .1)) stands-new
 
       no-identifier : number (now-current .«log_guid») ≡ 0
@@ -182,7 +182,7 @@ module _ (identifier : List ℕ) (o : File) (h : Header) (k : currentHeader (o .
       fits-here : applyWithin (length (f .buffer)) (f .size) [] ≡ apply m []
       fits-here =
           let a = applied o h k e in
-          rw (le-leb (f .size) (length (f .buffer)) (omega (arith, a .fits)), le-leb (f .size) lengthLimit (omega (arith, a .limit)))
+          rw (le-leb (f .size) (length (f .buffer)) (omega arith), le-leb (f .size) lengthLimit (omega (arith, a .limit)))
           (ap (λ (n : ℕ). apply n []) full)
 
       -- the log is gone

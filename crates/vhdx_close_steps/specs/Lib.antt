@@ -1,0 +1,4 @@
+pub mod Close
+pub mod Calls
+pub mod Failures
+pub mod Safety

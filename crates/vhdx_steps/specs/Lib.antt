@@ -1,0 +1,4 @@
+pub mod Buffer
+pub mod Steps
+pub mod Calls
+pub mod Failures
