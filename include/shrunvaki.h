@@ -103,7 +103,9 @@ enum {
  * changed, and the answer is the given length and count 0. With 9 to 15 the log is applied, and length and count say so.
  *
  * A call that was interrupted, whatever it left in the sector being written or however far it grew the image, is made good by
- * another attach of what it left, at the length that it left and in a buffer of the same capacity.
+ * another attach of what it left, at the length that it left, in any buffer that holds the answered length. So is one that a power
+ * failure ended, whichever of the sectors were on the disk then, whole or torn: attach at the length that the file has then. It is
+ * no shorter than at its last flush, if the file system keeps what was flushed.
  */
 uint64_t shrunvaki_vhdx_attach(uint8_t *buffer, size_t capacity, uint64_t length, uint64_t answer[32]);
 
@@ -133,9 +135,10 @@ uint64_t shrunvaki_vhdx_step(uint8_t *buffer, size_t capacity, uint64_t length, 
  * sectors written, the header not counted. With a refusal nothing is changed, and the answer is the given length and count 0. Where
  * no log is pending the call succeeds and changes nothing.
  *
- * A call that was interrupted is made good by another close of what it left, with the same identifier, at the length that it left
- * and in a buffer of the same capacity, where a header that was half written is not valid by its checksum. For a file that is
- * written through: the header must not reach the disk before the sectors.
+ * A call that was interrupted is made good by another close of what it left, with the same identifier, at the length that it left,
+ * in any buffer that holds the answered length, where a header that was half written is not valid by its checksum. For a file that
+ * is written through: the header must not reach the disk before the sectors, so flush between the two. After a power failure, close
+ * again at the length that the file then has.
  */
 uint64_t shrunvaki_vhdx_close(uint8_t *buffer, size_t capacity, uint64_t length, const uint8_t identifier[16],
                               uint64_t answer[3]);
@@ -143,8 +146,8 @@ uint64_t shrunvaki_vhdx_close(uint8_t *buffer, size_t capacity, uint64_t length,
 /*
  * Does one step of closing alone: step 0 grows the image, step k writes sector k, from 1 to close's count, and step count + 1 the
  * header; where no log is pending there is only step 0. answer[0] is the refusal, which is returned too, answer[1] the image's
- * length after the step. Do them in order, from 0 again after an interruption: the header before its sectors loses the log. A
- * refused step changes nothing.
+ * length after the step. Do them in order, from 0 again after an interruption or a power failure, and flush before the header's:
+ * the header before its sectors loses the log. A refused step changes nothing.
  */
 uint64_t shrunvaki_vhdx_close_step(uint8_t *buffer, size_t capacity, uint64_t length, const uint8_t identifier[16], uint64_t k,
                                    uint64_t answer[2]);

@@ -3,14 +3,14 @@
 -- same of power failures, and `CrashSafe` follows from it, since every call leaves what a power failure may leave. Both are proved in
 -- proofs/CrashSafety.antt, and are about the definitions that the contracts of `attach` and `step` cite (`RunToTheEnd`).
 --
--- What an interrupted call leaves is defined in vhdx_replay, specs/Steps.antt (`Ran`): some first steps are whole, and the next is not
+-- What an interrupted call leaves is defined in vhdx_steps, specs/Steps.antt (`Ran`): some first steps are whole, and the next is not
 -- begun or torn. That a call which really stops leaves one of these states rests on two things that the code shows and no contract
 -- says: growth writes upward from the given length (`store::zeros`), and the write of a sector stores only inside it
 -- (`sector::write`).
 --
 -- What a power failure leaves is defined there too, specs/Failures.antt (`Lost`). That it leaves no more than this rests on the disk and
--- the file system: a write damages nothing outside its 4,096 bytes; a file that was made longer reads as zeros where nothing was
--- written; and it does not become shorter than at its last flush.
+-- the file system: a write damages nothing outside its 4,096 bytes, and growth nothing before the old end; a file that was made longer
+-- reads as zeros where nothing was written; and it does not become shorter than at its last flush.
 -- Assumes nothing.
 use mathlib.Core.List.{List}
 use mathlib.Core.Logic.{_↔_}
@@ -65,7 +65,7 @@ abbrev pub CrashSafe : Type 0
 CrashSafe = (o f : File) → Applicable o → Calls o f → (length (f .buffer) ≡ length (o .buffer)) × Restarts o f
 
 -- a call may also be lost in a power failure, which takes back, whole or in part, every call since the last flush; and a later one may
--- be lent another buffer, which holds the final length
+-- have another buffer, which holds the final length
 abbrev pub PowerSafe : Type 0
 PowerSafe = (o d f : File) → Applicable o → History o d f → Restarts o f
 

@@ -1,3 +1,4 @@
 pub mod Again
+pub mod Histories
 pub mod Order
 pub mod Safety

@@ -29,7 +29,7 @@ use Rattle.vhdx_steps.specs.Steps.{File, end, In, Named, Step, grow, write, run
 use Rattle.vhdx_steps.specs.Buffer.{put}
 use Rattle.vhdx_steps.specs.Calls.{planOf}
 use Rattle.vhdx_steps.proofs.Every.{All, all-append}
-use Rattle.vhdx_steps.proofs.Bytes.{lt-or-le, put-length, put-out, zeroed-length, zeroed-low}
+use Rattle.vhdx_steps.proofs.Bytes.{lt-or-le, put-length, put-out, zeroed-length}
 use Rattle.vhdx_steps.specs.Failures.{Lost, Reopened}
 use Rattle.vhdx_steps.proofs.Restart.{EndBy, Good, nothing, both, done, of-step, ran, whole, writes-good, Agree, in-or-out, meet-one, grown-alike, all-done, Reads}
 use Rattle.vhdx_steps.proofs.Losses.{reopened-lost}
@@ -39,11 +39,12 @@ use Rattle.vhdx_rewrite.specs.Rewrite.{closedHeader}
 use Rattle.vhdx_rewrite.specs.Rewrite.{greatest}
 use Rattle.vhdx_close_steps.specs.Close.{slotIn, headerSector, closePlan, afterClose, afterCloseStep}
 use Rattle.vhdx_close_steps.specs.Calls.{WholeBy, WholeIfValid, Call, close, step, refuse, interrupted-close, interrupted-step}
-use Rattle.vhdx_close_steps.specs.Failures.{SlotKeptBy, Failed, sectors-lost, header-lost, History, original, called, lost, reopened, flushed, failed}
+use Rattle.vhdx_close_steps.specs.Failures.{SlotKeptBy, Failed, sectors-lost, header-lost, History}
 use Rattle.vhdx_close_steps.specs.Safety.{HasNoLog}
 use Rattle.vhdx_rewrite.proofs.Parts.{part-in}
 use Rattle.vhdx_rewrite.proofs.Rewriting.{closed-long}
 use Rattle.vhdx_rewrite.proofs.Slots.{slots-low, slot-same, slot-part, slot-byte}
+use Rattle.vhdx_close_steps.proofs.Histories.{throughout}
 use Rattle.vhdx_close_steps.proofs.Again.{current-kept, slots-of, long, KeptHere, still-current, plan-still, close-again, close-done, gone}
 
 -- ---- what a run of steps can be
@@ -81,7 +82,7 @@ all-at P (t ∷ ts) d zero h a = a .0
 all-at P (t ∷ ts) d (suc j) h a = all-at P ts d j (omega arith) (a .1)
 
 -- a refused step leaves the file
-pub refused-same : (identifier : List ℕ) (j x : ℕ) (f : File) → chosen (closePlan identifier f) j (f .size) ≡ refused x → afterCloseStep identifier j f ≡ f
+refused-same : (identifier : List ℕ) (j x : ℕ) (f : File) → chosen (closePlan identifier f) j (f .size) ≡ refused x → afterCloseStep identifier j f ≡ f
 unfolding afterCloseStep
 refused-same identifier j x f r = ap (λ (y : Outcome Step). runs (stepsOf y) f) r
 
@@ -620,12 +621,12 @@ module _ (identifier : List ℕ) (sixteen : length identifier ≡ 16) (o : File)
 
     -- ---- histories
 
-    called-on : {n n′ : ℕ} {f g : File} → State n f → Call identifier n f n′ g → State n′ g
-    called-on {n} {f = f} q close = whole-closed n f q
-    called-on {n} {f = f} q (step j b) = stepped n j f b q
-    called-on {n} {f = f} q (refuse j x r) = subst (State n) (sym (refused-same identifier j x f r)) q
-    called-on {n} {f = f} {g = g} q (interrupted-close r w) = interrupted-closed n f g q r w
-    called-on {n} {f = f} {g = g} q (interrupted-step j b r w) = interrupted-stepped n j f g b q r w
+    called-on : (n n′ : ℕ) (f g : File) → State n f → Call identifier n f n′ g → State n′ g
+    called-on n n′ f g q close = whole-closed n f q
+    called-on n n′ f g q (step j b) = stepped n j f b q
+    called-on n n′ f g q (refuse j x r) = subst (State n) (sym (refused-same identifier j x f r)) q
+    called-on n n′ f g q (interrupted-close r w) = interrupted-closed n f g q r w
+    called-on n n′ f g q (interrupted-step j b r w) = interrupted-stepped n j f g b q r w
 
     failed-on : (n : ℕ) (f g : File) → State n f → Failed identifier f g → State zero g
     unfolding State Closed Progress
@@ -689,20 +690,14 @@ module _ (identifier : List ℕ) (sixteen : length identifier ≡ 16) (o : File)
         let final : f .size ≤ length (g .buffer) = rw (closed-gone f a .no-work) at (x .capacity) in
         inr (reopened-agree [] (omega (arith, final, a .size-f)) x a)
 
-    -- of the file as it was flushed last, and of the file as it is
     ended : (n : ℕ) (f : File) → State n f → State zero f
     unfolding State
     ended n f (inl q) = inl (weaken n f q)
     ended n f (inr q) = inr q
 
-    after : {n : ℕ} {d f : File} → History identifier o d n f → State zero d × State n f
+    after : {n : ℕ} {d f : File} → History identifier o d n f → State n f
     unfolding State
-    after original = (inl start, inl start)
-    after (called x y) = let q = after x in (q .0, called-on (q .1) y)
-    after (lost {f = f} {g = g} {e = j} x y) = let q = after x in (q .0, failed-on j f g (q .1) y)
-    after (reopened {f = f} {g = g} {e = j} x y) = let q = after x in (q .0, reopened-on j f g (q .1) y)
-    after {n} {f = f} (flushed x) = let q = after x in (ended n f (q .1), q .1)
-    after (failed {d = d} {g = g} x y) = let q = failed-on zero d g (after x .0) y in (q, q)
+    after x = throughout identifier o State called-on failed-on reopened-on ended (inl start) x .1
 
     whole-T : afterClose identifier o ≡ T
     unfolding afterClose T
@@ -720,7 +715,7 @@ module _ (identifier : List ℕ) (sixteen : length identifier ≡ 16) (o : File)
 
     -- what every history leaves, and what one more close then leaves
     pub closed-after : {n : ℕ} {d f : File} → History identifier o d n f → Lost m (ss ++ (headerSector identifier o h ∷ [])) o f × Agree m [] (afterClose identifier f) (afterClose identifier o)
-    closed-after {n} {d} {f} x = let q = after x .1 in (kept-by n f q, closes-alike n f q)
+    closed-after {n} {f = f} x = let q = after x in (kept-by n f q, closes-alike n f q)
 
     -- the log is gone
     pub for-good : HasNoLog (afterClose identifier o)

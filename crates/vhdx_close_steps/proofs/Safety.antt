@@ -5,7 +5,7 @@ use mathlib.Core.Path.{_≡_, refl, sym, ap, subst, _∙_}
 use mathlib.Core.Bool.{Bool, true, false, cond, _&&_}
 use mathlib.Core.List.{List, [], _∷_, _++_}
 use mathlib.Core.Logic.{inl, inr}
-use Prim.Native.Nat.{ℕ, zero, _+_, _≤_, _<_}
+use Prim.Native.Nat.{ℕ, _+_, _≤_, _<_}
 use native.Mathlib.Omega.{arith}
 use lib.Dec.{eqb, leb, ltb}
 use lib.ListN.{length, take, getD}
@@ -37,12 +37,13 @@ use Rattle.field.specs.Fields.{Bytes}
 use Rattle.vhdx_rewrite.specs.Rewrite.{greatest}
 use Rattle.vhdx_close_steps.specs.Close.{slotIn, headerSector, closing, closedBy, closePlan, afterClose, afterCloseStep, closeAnswer}
 use Rattle.vhdx_close_steps.specs.Calls.{Call, close, step, refuse, interrupted-close, interrupted-step, Calls, none, then}
-use Rattle.vhdx_close_steps.specs.Failures.{Failed, sectors-lost, header-lost, History, original, called, lost, reopened, flushed, failed}
+use Rattle.vhdx_close_steps.specs.Failures.{Failed, sectors-lost, header-lost, History, original}
 use Rattle.vhdx_close_steps.specs.Safety.{Recloses, CloseSafe, ClosePowerSafe, NothingBeyondClose, HasNoLog, ClosesForGood}
 use Rattle.vhdx_replay.proofs.Done.{written-size}
 use Rattle.vhdx_rewrite.proofs.Slots.{slots-low, slot-same}
 use Rattle.vhdx_close_steps.proofs.Again.{slots-of, KeptHere, still-current, close-again}
-use Rattle.vhdx_close_steps.proofs.Order.{ran-nil, refused-same, untouched as kept-here, plan-is, ends, for-good, closed-after}
+use Rattle.vhdx_close_steps.proofs.Histories.{throughout, as-history}
+use Rattle.vhdx_close_steps.proofs.Order.{ran-nil, untouched as kept-here, plan-is, ends, for-good, closed-after}
 
 -- the answered length is the file's
 answer-length : (identifier : List ℕ) (f : File) → closeAnswer identifier f .length ≡ afterClose identifier f .size
@@ -135,31 +136,27 @@ module _ (identifier : List ℕ) (o : File) (h : Header) (k : currentHeader (o .
     unfolding afterCloseStep
     stepped-whole j f v = ran-single j f (runs (single (closePlan identifier f) j (f .size)) f) v (whole (single (closePlan identifier f) j (f .size)) f)
 
-    called-on : {n n′ : ℕ} {f g : File} → Lost m ss o f → Call identifier n f n′ g → Lost m ss o g
-    called-on {f = f} v close = closed-whole f v
-    called-on {f = f} v (step j b) = stepped-whole j f v
-    called-on {f = f} v (refuse j x r) = stepped-whole j f v
-    called-on {f = f} {g = g} v (interrupted-close r w) = ran-steps f g v r
-    called-on {f = f} {g = g} v (interrupted-step j b r w) = ran-single j f g v r
+    called-on : (n n′ : ℕ) (f g : File) → Lost m ss o f → Call identifier n f n′ g → Lost m ss o g
+    called-on n n′ f g v close = closed-whole f v
+    called-on n n′ f g v (step j b) = stepped-whole j f v
+    called-on n n′ f g v (refuse j x r) = stepped-whole j f v
+    called-on n n′ f g v (interrupted-close r w) = ran-steps f g v r
+    called-on n n′ f g v (interrupted-step j b r w) = ran-single j f g v r
 
-    failed-on : {f g : File} → Lost m ss o f → Failed identifier f g → Lost m ss o g
-    failed-on {f} v (sectors-lost l s) = both m ss v (rw (again f v) at l)
-    failed-on {f} {g} v (header-lost r w) = ran-steps f g v r
+    failed-on : (f g : File) → Lost m ss o f → Failed identifier f g → Lost m ss o g
+    failed-on f g v (sectors-lost l s) = both m ss v (rw (again f v) at l)
+    failed-on f g v (header-lost r w) = ran-steps f g v r
 
-    after : {n : ℕ} {d f : File} → History identifier o d n f → Lost m ss o d × Lost m ss o f
-    after original = (nothing m ss (R .grows), nothing m ss (R .grows))
-    after (called x c) = let v = after x in (v .0, called-on (v .1) c)
-    after (lost x y) = let v = after x in (v .0, failed-on (v .1) y)
-    after (reopened x y) = let v = after x in (v .0, reopened-more R (v .1) y)
-    after (flushed x) = let v = after x in (v .1, v .1)
-    after (failed x y) = let v = failed-on (after x .0) y in (v, v)
+    after : {n : ℕ} {d f : File} → History identifier o d n f → Lost m ss o f
+    after x =
+        throughout identifier o (λ (n : ℕ) (f : File). Lost m ss o f) called-on (λ n f g. failed-on f g) (λ n f g v y. reopened-more R v y) (λ n f v. v) (nothing m ss (R .grows)) x .1
 
     alike : (f : File) → Lost m ss o f → Agree m [] (afterClose identifier f) (afterClose identifier o)
     unfolding afterClose
     alike f v = rw (again f v, no-log-plan) (all-done (R .grows) (R .fits) (R .ends) v)
 
     no-log : {n : ℕ} {d : File} (f : File) → History identifier o d n f → Recloses identifier o f
-    no-log f x = let v = after x .1 in recloses ss no-log-plan f v (λ i y. untouched R v i (y .0)) (alike f v)
+    no-log f x = let v = after x in recloses ss no-log-plan f v (λ i y. untouched R v i (y .0)) (alike f v)
 
   -- ---- 23: nothing is written
 
@@ -196,33 +193,29 @@ module _ (identifier : List ℕ) (o : File) (h : Header) (k : currentHeader (o .
           λ j r. subst Same (sym (ran-nil (subst (λ (q : Plan). Ran (single q j (f .size)) f g) p r))) v,
         )
 
-    same-call : {n n′ : ℕ} {f g : File} → Same f → Call identifier n f n′ g → Same g
+    same-call : (n n′ : ℕ) (f g : File) → Same f → Call identifier n f n′ g → Same g
     unfolding afterClose afterCloseStep
-    same-call {f = f} v close = ran-on v .0 (whole (steps (closePlan identifier f)) f)
-    same-call {f = f} v (step j b) = ran-on v .1 j (whole (single (closePlan identifier f) j (f .size)) f)
-    same-call {f = f} v (refuse j x r) = ran-on v .1 j (whole (single (closePlan identifier f) j (f .size)) f)
-    same-call v (interrupted-close r w) = ran-on v .0 r
-    same-call v (interrupted-step j b r w) = ran-on v .1 j r
+    same-call n n′ f g v close = ran-on v .0 (whole (steps (closePlan identifier f)) f)
+    same-call n n′ f g v (step j b) = ran-on v .1 j (whole (single (closePlan identifier f) j (f .size)) f)
+    same-call n n′ f g v (refuse j x r) = ran-on v .1 j (whole (single (closePlan identifier f) j (f .size)) f)
+    same-call n n′ f g v (interrupted-close r w) = ran-on v .0 r
+    same-call n n′ f g v (interrupted-step j b r w) = ran-on v .1 j r
 
-    same-failed : {f g : File} → Same f → Failed identifier f g → Same g
+    same-failed : (f g : File) → Same f → Failed identifier f g → Same g
     unfolding Same
-    same-failed {f} {g} v (sectors-lost l s) =
+    same-failed f g v (sectors-lost l s) =
         let x : Lost (f .size) [] f g = rw (still-refused f v .1) at l in
         both (o .size) [] v (subst (λ (n : ℕ). Lost n [] f g) {x = f .size} {y = o .size} (omega (arith, v .from, v .to)) x)
-    same-failed v (header-lost r w) = ran-on v .0 r
+    same-failed f g v (header-lost r w) = ran-on v .0 r
 
-    same-reopened : {f g : File} → Same f → Reopened f g → Same g
+    same-reopened : (f g : File) → Same f → Reopened f g → Same g
     unfolding Same
-    same-reopened {f} v x = both (o .size) [] v (reopened-lost (o .size) [] (v .to) (omega (arith, v .to, v .from, x .capacity, final-grows f)) x)
+    same-reopened f g v x = both (o .size) [] v (reopened-lost (o .size) [] (v .to) (omega (arith, v .to, v .from, x .capacity, final-grows f)) x)
 
-    same-after : {n : ℕ} {d f : File} → History identifier o d n f → Same d × Same f
+    same-after : {n : ℕ} {d f : File} → History identifier o d n f → Same f
     unfolding Same
-    same-after original = (nothing (o .size) [] (omega arith), nothing (o .size) [] (omega arith))
-    same-after (called x c) = let v = same-after x in (v .0, same-call (v .1) c)
-    same-after (lost x y) = let v = same-after x in (v .0, same-failed (v .1) y)
-    same-after (reopened x y) = let v = same-after x in (v .0, same-reopened (v .1) y)
-    same-after (flushed x) = let v = same-after x in (v .1, v .1)
-    same-after (failed x y) = let v = same-failed (same-after x .0) y in (v, v)
+    same-after x =
+        throughout identifier o (λ (n : ℕ). Same) same-call (λ n f g. same-failed f g) (λ n f g. same-reopened f g) (λ n f v. v) (nothing (o .size) [] (omega arith)) x .1
 
     unchanged : (f : File) → Same f → afterClose identifier f ≡ f
     unfolding afterClose
@@ -231,7 +224,7 @@ module _ (identifier : List ℕ) (o : File) (h : Header) (k : currentHeader (o .
     at-the-top : {n : ℕ} {d : File} (f : File) → History identifier o d n f → Recloses identifier o f
     unfolding Same part
     at-the-top f x =
-        let v = same-after x .1 in
+        let v = same-after x in
         let a = accepted (o .buffer) (o .size) k in
         let b : o .size ≤ length (f .buffer) = v .capacity (a .fits) in
         let size : f .size ≡ o .size = omega (arith, v .from, v .to) in
@@ -323,11 +316,6 @@ module _ (identifier : List ℕ) (sixteen : length identifier ≡ 16) (f : File)
   call-capacity (refuse j x r) = ran-capacity .1 j (whole (single (closePlan identifier f) j (f .size)) f)
   call-capacity (interrupted-close r w) = ran-capacity .0 r
   call-capacity (interrupted-step j b r w) = ran-capacity .1 j r
-
--- a list of calls is a history without a flush, in one buffer
-as-history : {identifier : List ℕ} {n : ℕ} {o d f g : File} → History identifier o d n f → Calls identifier n f g → (n′ : ℕ) × History identifier o d n′ g
-as-history {n = n} x none = (n, x)
-as-history x (then c cs) = as-history (called x c) cs
 
 same-capacity : {identifier : List ℕ} → length identifier ≡ 16 → {n : ℕ} {f g : File} → Calls identifier n f g → length (g .buffer) ≡ length (f .buffer)
 same-capacity sixteen none = refl

@@ -1,6 +1,6 @@
 -- Lists of closes and of their steps, each run to its end, refused or interrupted (change request Q-6: "For that call and its steps, in
 -- a list without attach's, .. with the same identifier lent every time, the steps in order from 0, none skipped, at the start and after
--- each cut"). What an interrupted run of steps leaves is `Ran` of vhdx_replay, with the header's slot as one more sector.
+-- each cut"). What an interrupted run of steps leaves is `Ran` of vhdx_steps, with the header's slot as one more sector.
 -- Assumes nothing.
 use mathlib.Core.Bool.{true}
 use mathlib.Core.List.{List}

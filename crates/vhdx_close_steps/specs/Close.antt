@@ -1,5 +1,5 @@
 -- Closing a log (change request Q-6): the log's work as attach does it, then one header. Its plan is a plan like the log's, with the
--- header's slot as one more sector behind the last, so the steps of closing are `steps`, `chosen` and `single` of vhdx_replay too.
+-- header's slot as one more sector behind the last, so the steps of closing are `steps`, `chosen` and `single` of vhdx_steps too.
 -- An identifier is the list of its 16 bytes: the file-write identifier that the caller hands in.
 -- Assumes nothing.
 use mathlib.Core.Bool.{cond}

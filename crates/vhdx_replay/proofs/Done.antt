@@ -25,7 +25,7 @@ use Rattle.vhdx_steps.specs.Buffer.{put, zeroed}
 use Rattle.vhdx_steps.specs.Steps.{File, Step, write, end, runs, steps, admitted, stepsOf}
 use Rattle.vhdx_steps.specs.Calls.{file}
 use Rattle.vhdx_replay.specs.Planned.{logExtent, Planned}
-use Rattle.vhdx_replay.proofs.Applying.{planned, header, plan-is, known, all-steps, length-fits}
+use Rattle.vhdx_replay.proofs.Applying.{planned, header, plan-is, known, all-steps}
 use Rattle.vhdx_steps.proofs.Reading.{same-first, reads}
 use Rattle.vhdx_steps.specs.Failures.{Lost}
 use Rattle.vhdx_steps.proofs.Restart.{ran, whole, good, untouched}

@@ -2,7 +2,8 @@
 -- not yet flushed may be on the disk or not, in any order; and a later call may have another buffer.
 --
 -- That a failure leaves no more than `Lost` says rests on the disk and the file system: a write damages nothing outside its 4,096
--- bytes; a file that was made longer reads as zeros where nothing was written; and it does not become shorter than at its last flush.
+-- bytes, and growth nothing before the old end; a file that was made longer reads as zeros where nothing was written; and it does not
+-- become shorter than at its last flush.
 -- Assumes nothing.
 use mathlib.Core.List.{List}
 use mathlib.Core.Path.{_≡_}
