@@ -1,10 +1,14 @@
-//! Interrupted closes: after any list of closes and of steps in their order, each run to its end, refused or interrupted, one more
-//! close gives the length and the bytes that closing the original gives. Steps begin at 0, and at 0 again after each interruption;
-//! the identifier is the same throughout; a torn header is not valid. Without any one of these the promise does not hold, which
-//! the last tests show.
+//! Interrupted closes, and power failures: after any list of closes and of steps in their order, each run to its end, refused or
+//! interrupted, of flushes and of power failures, one more close gives the length and the bytes that closing the original gives. A call
+//! that is lost leaves any of the sectors torn and the other header's place as it was, or all sectors whole and the new header torn or
+//! not; a power failure the same of the file as it was at the last flush. Between calls the file may come into another buffer.
+//!
+//! Steps begin at 0, and at 0 again after each interruption; the identifier is the same throughout; a torn header is not valid; the
+//! header is not on the disk before the sectors, by a flush between. Without any one of these the promise does not hold, which the last
+//! tests show.
 use shrunvaki_testkit::closing::{is_valid, place, Closing, Other, WRITER};
 use shrunvaki_testkit::image::{Entry, Image, GUID, HEADERS, MIB};
-use shrunvaki_testkit::interrupted::Compared;
+use shrunvaki_testkit::interrupted::{Compared, Unflushed};
 use shrunvaki_testkit::pending::{
     assert_same, data, growth_alone, no_growth, pattern, r1, r1_with, rich, small_blocks,
     without_a_log, Pending, Replay,
@@ -76,9 +80,16 @@ enum Kind {
     TornHeader,
     /// An interrupted write that left all of the new header.
     WholeHeader,
+    LostSectors,
+    LostHeader,
+    Lent,
+    Flush,
+    Failure,
+    /// A power failure after which a file was not closed any more that had been.
+    TakenBack,
 }
 
-const KINDS: usize = Kind::WholeHeader as usize + 1;
+const KINDS: usize = Kind::TakenBack as usize + 1;
 
 /// A file between calls.
 struct File<'a> {
@@ -123,6 +134,12 @@ impl<'a> File<'a> {
         }
     }
 
+    /// The log's work, without the header.
+    fn work(&self) -> Unflushed<'a> {
+        let pending = &self.case.closing.pending;
+        Unflushed::of(&pending.replay, pending.image.length)
+    }
+
     /// The number of the step that writes the header, unless there is none.
     fn is_header(&self, k: u64) -> bool {
         let steps = self.steps();
@@ -155,6 +172,7 @@ impl<'a> File<'a> {
             buffer,
             expected,
             length,
+            ..
         } = &mut self.now;
         let answer = vhdx::close(buffer, *length, &closing.identifier);
         let mut told = Closed {
@@ -278,6 +296,79 @@ impl<'a> File<'a> {
         self.reach(Kind::InterruptedClose);
     }
 
+    /// Takes up a file in another buffer. It is closed where the new header is there, or none is to be written.
+    fn take_up(&mut self, random: &mut Random, file: &[u8]) {
+        let closing = &self.case.closing;
+        let least = closing.pending.replay.grown(file.len() as u64);
+        self.now.lend(random, file, least);
+        let header = (closing.steps.sectors).get(closing.pending.replay.sectors.len());
+        let is_there = header.is_none_or(|(at, bytes)| file[*at..].starts_with(bytes));
+        self.closed = closing.refusal == 0 && is_there;
+    }
+
+    /// What may be left of a file, in another buffer.
+    fn leave(&mut self, random: &mut Random, file: &[u8]) {
+        self.take_up(random, file);
+        self.next = 0;
+        if !self.closed && self.case.closing.refusal == 0 {
+            match random.one_in(2) {
+                true => self.lose_sectors(random),
+                false => self.lose_header(random),
+            }
+        }
+    }
+
+    /// Any of the sectors is torn, and the other header's place is as it was.
+    fn lose_sectors(&mut self, random: &mut Random) {
+        let left = self.work().lost(random, self.now.file());
+        self.take_up(random, &left);
+        self.reach(Kind::LostSectors);
+    }
+
+    /// All sectors are whole, and the header is as it was or as an interrupted write leaves it.
+    fn lose_header(&mut self, random: &mut Random) {
+        let replay = &self.case.closing.pending.replay;
+        self.now.length = replay.all(&mut self.now.expected, self.now.length);
+        self.now.buffer.clone_from(&self.now.expected);
+        if !random.one_in(4) {
+            self.tear(random, self.steps().count());
+        }
+        self.reach(Kind::LostHeader);
+    }
+
+    /// A call that is lost: its writes were done in any order, but for the header's, or not.
+    fn lose(&mut self, random: &mut Random) {
+        let file = self.now.file().to_vec();
+        self.leave(random, &file);
+        self.check("a lost call");
+    }
+
+    /// The same file in another buffer.
+    fn lend(&mut self, random: &mut Random) {
+        let file = self.now.file().to_vec();
+        self.take_up(random, &file);
+        self.reach(Kind::Lent);
+        self.check("another buffer");
+    }
+
+    fn flush(&mut self) {
+        self.now.flush();
+        self.reach(Kind::Flush);
+    }
+
+    /// A power failure: of all that was done since the last flush any part is taken back, and what is on the disk then stays there.
+    fn fail(&mut self, random: &mut Random) {
+        let closed = self.closed;
+        let flushed = std::mem::take(&mut self.now.flushed);
+        self.leave(random, &flushed);
+        self.now.flush();
+        self.reach(Kind::Failure);
+        if closed && !self.closed {
+            self.reach(Kind::TakenBack);
+        }
+        self.check("a power failure");
+    }
+
     /// One more close, undisturbed: length and bytes are those of closing the original, and no work is left.
     fn finish(&mut self) {
         self.close();
@@ -336,19 +427,65 @@ fn a_header_torn_at_every_byte() {
     assert!((4..20).contains(&valid), "{valid} of them are whole");
 }
 
+/// Lengths that an interrupted close may leave.
+fn lengths(case: &Case) -> Vec<u64> {
+    let (old, new) = (
+        case.closing.pending.image.length,
+        case.closing.answer().length,
+    );
+    let mut lengths = vec![old, old + 1, (old + new) / 2, new - 1, new];
+    lengths.retain(|length| (old..=new).contains(length) && case.closing.refusal == 0);
+    lengths
+}
+
 #[test]
 fn growth_interrupted_anywhere() {
     let mut random = Random::new(23);
     for case in &cases() {
-        let (old, new) = (
-            case.closing.pending.image.length,
-            case.closing.answer().length,
-        );
         let mut file = File::new(case);
-        for length in [old, old + 1, (old + new) / 2, new - 1, new] {
-            if (old..=new).contains(&length) && case.closing.refusal == 0 {
+        for length in lengths(case) {
+            file.reset();
+            file.now.interrupt_growth(&mut random, length);
+            file.finish();
+        }
+    }
+}
+
+// ---- one power failure
+
+#[test]
+fn every_sector_of_a_close_torn_at_once() {
+    let mut random = Random::new(24);
+    for case in &cases() {
+        let mut file = File::new(case);
+        for length in lengths(case) {
+            file.reset();
+            let left = (file.work()).lost_at(&mut random, file.now.file(), length, 1);
+            file.take_up(&mut random, &left);
+            file.check("every sector torn");
+            file.finish();
+        }
+    }
+}
+
+#[test]
+fn a_power_failure_on_either_side_of_the_flush_before_the_header() {
+    let mut random = Random::new(25);
+    for case in &cases() {
+        let mut file = File::new(case);
+        for (flushes, header) in [(false, false), (true, false), (true, true)] {
+            for _ in 0..8 {
                 file.reset();
-                file.now.interrupt_growth(&mut random, length);
+                while !file.is_header(file.next) && file.answer(file.next).refusal == 0 {
+                    file.step(file.next);
+                }
+                if flushes {
+                    file.flush();
+                }
+                if header && file.is_header(file.next) {
+                    file.step(file.next);
+                }
+                file.fail(&mut random);
                 file.finish();
             }
         }
@@ -367,7 +504,7 @@ fn number(random: &mut Random, steps: u64) -> u64 {
 }
 
 fn call(random: &mut Random, file: &mut File) {
-    match random.below(16) {
+    match random.below(20) {
         0 => file.close(),
         1 | 2 => file.interrupt_close(random),
         3 | 4 => {
@@ -387,6 +524,10 @@ fn call(random: &mut Random, file: &mut File) {
                 file.interrupt_step(random, file.next);
             }
         }
+        10 => file.lose(random),
+        11 => file.lend(random),
+        12 => file.flush(),
+        13 | 14 => file.fail(random),
         _ => {
             let k = file.in_order(random);
             file.step(k);
@@ -394,7 +535,7 @@ fn call(random: &mut Random, file: &mut File) {
     }
 }
 
-const LISTS: u64 = 600;
+const LISTS: u64 = 1_200;
 
 #[test]
 fn random_lists_of_calls() {
@@ -410,7 +551,7 @@ fn random_lists_of_calls() {
             let k = number(&mut random, file.case.closing.steps.count());
             file.refused_step(k);
         }
-        for _ in 0..random.below(8) {
+        for _ in 0..random.below(12) {
             call(&mut random, file);
         }
         file.finish();
@@ -423,9 +564,10 @@ fn random_lists_of_calls() {
     }
     println!(
         "closes, of closed files, steps, steps back, headers, refused 21, 22 and 23, interrupted closes, interrupted growths, \
-         torn sectors, torn headers, whole headers: {reached:?}"
+         torn sectors, torn headers, whole headers, lost sectors, lost headers, other buffers, flushes, power failures, of these of closed \
+         files: {reached:?}"
     );
-    assert!(reached.iter().all(|&n| n >= 20), "{reached:?}");
+    assert!(reached.iter().all(|&n| n >= 40), "{reached:?}");
 }
 
 // ---- what is not promised
@@ -459,6 +601,28 @@ fn the_header_before_the_sectors_loses_the_log() {
     let skipped = after(&case.closing, &[0, 2, 3]);
     assert_eq!(skipped.len(), case.closed.len());
     assert!(skipped[2 * MIB] == 0 && case.closed[2 * MIB] == pattern(1)[0]);
+}
+
+#[test]
+fn without_a_flush_before_the_header_a_power_failure_may_lose_the_log() {
+    let closing = Closing::new(rich(&small_blocks().0), 0, 9, Other::Older);
+    let original = closing.pending.image.buffer.clone();
+    let case = Case::new("rich", closing);
+    // all but one sector is on the disk, the header too
+    let mut file = case.closed.clone();
+    let sector = 3 * MIB..3 * MIB + 4096;
+    file[sector.clone()].copy_from_slice(&original[sector.clone()]);
+    let length = file.len() as u64;
+    let mut lost = file.clone();
+    let answer = vhdx::close(&mut lost, length, &WRITER);
+    assert_eq!((answer.refusal, answer.count), (0, 0), "no log is left");
+    assert_same(&lost[sector.clone()], &original[sector], "the sector");
+    assert!(lost != case.closed);
+    // all but the header
+    let slot = case.closing.slot.clone();
+    file[slot.clone()].copy_from_slice(&original[slot]);
+    vhdx::close(&mut file, length, &WRITER);
+    assert_same(&file, &case.closed, "closed again");
 }
 
 #[test]

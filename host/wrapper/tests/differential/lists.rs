@@ -1,7 +1,8 @@
-//! Lists of calls, each run to its end or interrupted, on files with logs drawn at random: after every list one more attach gives
-//! what an attach of the original gives, and after lists of closes one more close what closing the original gives. A torn write
-//! leaves any bytes in its sector, interrupted growth any length up to the final one and garbage past it. Steps of closing are
-//! done in their order, from 0 on again after each interruption.
+//! Lists of calls, each run to its end or interrupted, and of power failures, on files with logs drawn at random: after every list one
+//! more attach gives what an attach of the original gives, and after lists of closes one more close what closing the original gives. A
+//! torn write leaves any bytes in its sector, interrupted growth any length up to the final one and garbage past it. A call that is lost
+//! leaves both at once, in any of the sectors, and a power failure the same of the file as it was at the last flush, in a buffer of
+//! another capacity. Steps of closing are done in their order, from 0 on again after each interruption.
 use crate::pair::Pair;
 use crate::questions::number;
 use shrunvaki_testkit::closing::WRITER;
@@ -9,6 +10,7 @@ use shrunvaki_testkit::drawn::draw::{capacity, Draw};
 use shrunvaki_testkit::drawn::files::{bases, Base};
 use shrunvaki_testkit::drawn::seeds;
 use shrunvaki_testkit::image::{Image, HEADERS, SECTOR};
+use shrunvaki_testkit::interrupted::Unflushed;
 use shrunvaki_testkit::pending::assert_same;
 use shrunvaki_testkit::random::Random;
 use shrunvaki_testkit::vhdx::{Attachment, Extent};
@@ -18,13 +20,34 @@ use vhdx_model::{self as model, Plan, Sector};
 const LISTS: u64 = 1_500;
 const LISTS_OF_CLOSES: u64 = 300;
 
-/// How often lists met what interrupts them: growth, a write, the header's, a whole attach or close.
+/// How often lists met what interrupts them: growth, a write, the header's, a whole attach or close; and lost calls, buffers of another
+/// capacity, flushes and power failures.
 #[derive(Default, Debug)]
 struct Met {
     growths: u64,
     writes: u64,
     headers: u64,
     calls: u64,
+    lost: u64,
+    lent: u64,
+    flushes: u64,
+    failures: u64,
+}
+
+impl Met {
+    /// Of those that every list may meet, how often the rarest was.
+    fn least(&self) -> u64 {
+        let met = [
+            self.growths,
+            self.writes,
+            self.calls,
+            self.lost,
+            self.lent,
+            self.flushes,
+            self.failures,
+        ];
+        met.into_iter().min().unwrap_or(0)
+    }
 }
 
 /// A file as it came, and what an attach of it gives.
@@ -57,6 +80,19 @@ impl Original {
         }
     }
 
+    /// The log's work, each sector as it is in the end.
+    fn work(&self) -> Unflushed<'_> {
+        let places = self.plan.sectors().map(Sector::extent);
+        let write = |place: Extent| {
+            let at = place.offset as usize;
+            (at, &self.applied[at..at + SECTOR])
+        };
+        Unflushed {
+            length: self.plan.length,
+            writes: places.map(write).collect(),
+        }
+    }
+
     /// "The file differs from the original only in sectors that the applied sequence names and in bytes past the old end", and
     /// where else it may.
     #[track_caller]
@@ -78,6 +114,56 @@ impl Original {
     fn assert_same(&self, buffer: &[u8], part: Range<usize>) {
         let original = &self.image.buffer[part.clone()];
         assert_same(&buffer[part], original, "what the log does not name");
+    }
+}
+
+/// What is surely on the disk of a file: what it was when it was last flushed.
+struct Disk<'a> {
+    original: &'a Original,
+    flushed: Vec<u8>,
+}
+
+impl<'a> Disk<'a> {
+    fn new(original: &'a Original, pair: &Pair) -> Disk<'a> {
+        let flushed = pair.file().to_vec();
+        Disk { original, flushed }
+    }
+
+    /// Another buffer, a flush, a lost call or a power failure, where `lost` says what is left of a file. Answers whether a call that
+    /// was on the way is over.
+    fn disturb(
+        &mut self,
+        random: &mut Random,
+        pair: &mut Pair,
+        met: &mut Met,
+        lost: impl Fn(&mut Random, &[u8]) -> Vec<u8>,
+    ) -> bool {
+        let least = self.original.plan.length;
+        match random.below(4) {
+            0 => {
+                let file = pair.file().to_vec();
+                pair.lend(random, &file, least);
+                met.lent += 1;
+                false
+            }
+            1 => {
+                self.flushed = pair.file().to_vec();
+                met.flushes += 1;
+                false
+            }
+            2 => {
+                let left = lost(random, pair.file());
+                pair.lend(random, &left, least);
+                met.lost += 1;
+                true
+            }
+            _ => {
+                self.flushed = lost(random, &self.flushed);
+                pair.lend(random, &self.flushed, least);
+                met.failures += 1;
+                true
+            }
+        }
     }
 }
 
@@ -123,13 +209,17 @@ fn interrupt_attach(random: &mut Random, pair: &mut Pair, met: &mut Met) {
     met.calls += 1;
 }
 
-fn call(random: &mut Random, pair: &mut Pair, met: &mut Met) {
+fn call(random: &mut Random, pair: &mut Pair, disk: &mut Disk, met: &mut Met) {
     let k = number(random, pair);
-    match random.below(8) {
+    match random.below(12) {
         0 => drop(pair.attach()),
         1 | 2 => interrupt_attach(random, pair, met),
         3 | 4 => drop(pair.step(k)),
-        _ => interrupt_step(random, pair, k, met),
+        5..=7 => interrupt_step(random, pair, k, met),
+        _ => {
+            let work = disk.original.work();
+            disk.disturb(random, pair, met, |random, file| work.lost(random, file));
+        }
     }
 }
 
@@ -145,8 +235,9 @@ fn interrupted_lists_of_calls() {
         let original = Original::draw(random, &bases[chosen], image, applied);
         let file = &original.image;
         pair.load_with(&file.buffer, original.capacity, file.length);
-        for _ in 0..random.below(6) {
-            call(random, &mut pair, &mut met);
+        let mut disk = Disk::new(&original, &pair);
+        for _ in 0..random.below(9) {
+            call(random, &mut pair, &mut disk, &mut met);
             original.assert_only_named(pair.buffer(), None);
         }
         assert_eq!(pair.attach(), original.answer, "as of the original");
@@ -158,8 +249,7 @@ fn interrupted_lists_of_calls() {
     pair.tally.print("interrupted lists");
     println!("  {met:?}");
     if all {
-        let least = met.growths.min(met.writes).min(met.calls);
-        assert!(least >= LISTS / 4, "{met:?}");
+        assert!(met.least() >= LISTS / 4, "{met:?}");
         pair.tally.assert_reached(0..=0, LISTS / 2);
         pair.tally.assert_reached(12..=12, LISTS / 100);
         pair.tally.assert_reached(21..=22, LISTS / 20);
@@ -193,6 +283,10 @@ impl Closing {
         self.slot.offset as usize
     }
 
+    fn is_closed(&self, file: &[u8]) -> bool {
+        file[self.place()..].starts_with(&self.header)
+    }
+
     /// Some steps from the next one on, often up to the header.
     fn steps(&mut self, random: &mut Random, pair: &mut Pair) {
         let header = pair.plan().map_or(1, |plan| plan.count + 1);
@@ -205,18 +299,36 @@ impl Closing {
         }
     }
 
+    /// The new header up to a byte, and what was there or anything behind it.
+    fn torn_header(&self, random: &mut Random, file: &[u8]) -> Vec<u8> {
+        let mut torn = file[self.place()..][..SECTOR].to_vec();
+        if random.one_in(2) {
+            random.fill(&mut torn);
+        }
+        let stop = random.pick(&[0, 4, 16, 60, 64, 512, SECTOR]);
+        torn[..stop].copy_from_slice(&self.header[..stop]);
+        torn
+    }
+
+    /// What a close that is lost may leave of a file: the other header's place as it was, or all sectors whole.
+    fn lost(&self, random: &mut Random, original: &Original, file: &[u8]) -> Vec<u8> {
+        if self.is_closed(file) {
+            return file.to_vec();
+        }
+        if random.one_in(2) {
+            return original.work().lost(random, file);
+        }
+        let mut left = original.applied[..original.plan.length as usize].to_vec();
+        let header = self.torn_header(random, file);
+        left[self.place()..][..SECTOR].copy_from_slice(&header);
+        left
+    }
+
     /// The next step, interrupted.
     fn interrupt(&mut self, random: &mut Random, pair: &mut Pair, met: &mut Met) {
-        let is_closed = pair.buffer()[self.place()..].starts_with(&self.header);
         let header = pair.plan().map(|plan| plan.count + 1);
-        if !is_closed && header == Some(self.next) {
-            // the new header up to a byte, and what was there or anything behind it
-            let mut torn = pair.buffer()[self.place()..][..SECTOR].to_vec();
-            if random.one_in(2) {
-                random.fill(&mut torn);
-            }
-            let stop = random.pick(&[0, 4, 16, 60, 64, 512, SECTOR]);
-            torn[..stop].copy_from_slice(&self.header[..stop]);
+        if !self.is_closed(pair.file()) && header == Some(self.next) {
+            let torn = self.torn_header(random, pair.buffer());
             pair.put(self.place(), &torn);
             met.headers += 1;
         } else {
@@ -225,12 +337,19 @@ impl Closing {
         self.next = 0;
     }
 
-    fn call(&mut self, random: &mut Random, pair: &mut Pair, met: &mut Met) {
-        match random.below(8) {
+    fn call(&mut self, random: &mut Random, pair: &mut Pair, disk: &mut Disk, met: &mut Met) {
+        match random.below(12) {
             0 => drop(pair.close(&WRITER)),
             1..=3 => self.steps(random, pair),
             4 => drop(pair.close_step(&WRITER, u64::MAX)),
             5 => self.interrupt(random, pair, met),
+            6..=9 => {
+                let original = disk.original;
+                let lost = |random: &mut Random, file: &[u8]| self.lost(random, original, file);
+                if disk.disturb(random, pair, met, lost) {
+                    self.next = 0;
+                }
+            }
             _ => {
                 self.next = 0;
                 self.steps(random, pair);
@@ -257,8 +376,9 @@ fn interrupted_lists_of_closes() {
         let closed = &mut original.applied[..original.capacity as usize];
         let length = model::close(closed, original.answer.length, &WRITER).length;
         let mut closing = Closing::new(&original, &original.applied);
-        for _ in 0..random.below(7) {
-            closing.call(random, &mut pair, &mut met);
+        let mut disk = Disk::new(&original, &pair);
+        for _ in 0..random.below(10) {
+            closing.call(random, &mut pair, &mut disk, &mut met);
             original.assert_only_named(pair.buffer(), Some(closing.slot));
         }
         assert_eq!(pair.close(&WRITER).length, length, "as of the original");
@@ -270,7 +390,7 @@ fn interrupted_lists_of_closes() {
     pair.tally.print("interrupted lists of closes");
     println!("  {met:?}");
     if all {
-        let least = met.growths.min(met.writes).min(met.headers).min(met.calls);
+        let least = met.least().min(met.headers);
         assert!(least >= LISTS_OF_CLOSES / 10, "{met:?}");
         pair.tally.assert_reached(21..=21, LISTS_OF_CLOSES / 10);
     }

@@ -4,6 +4,7 @@ use crate::tally::Tally;
 use shrunvaki_testkit::closing::WRITER;
 use shrunvaki_testkit::image::Image;
 use shrunvaki_testkit::pending::assert_same;
+use shrunvaki_testkit::random::Random;
 use shrunvaki_testkit::vhdx::{self, Attachment, Closed, Extent, Facts, Lookup, Plan, Stepped};
 use vhdx_model as model;
 
@@ -11,7 +12,8 @@ use vhdx_model as model;
 pub struct Pair {
     proved: Vec<u8>,
     model: Vec<u8>,
-    /// Of the buffer that calls are given, which may be shorter than the ones here: what is past it is compared too.
+    /// Of the buffer that calls are given, which may be shorter than the ones here: what is past it is compared too. It may change
+    /// between calls.
     capacity: usize,
     pub length: u64,
     pub tally: Tally,
@@ -43,6 +45,27 @@ impl Pair {
         for copy in [&mut self.proved, &mut self.model] {
             copy[at..at + bytes.len()].copy_from_slice(bytes);
         }
+    }
+
+    /// The file, without the rest of its buffer.
+    pub fn file(&self) -> &[u8] {
+        &self.model[..self.length as usize]
+    }
+
+    /// Takes up what is left of the file, in another part of the buffers here, which holds at least so many bytes, and anything past the
+    /// file's end.
+    pub fn lend(&mut self, random: &mut Random, file: &[u8], least: u64) {
+        let most = self.model.len() as u64;
+        let capacity = match random.below(4) {
+            0 => least,
+            1 => most,
+            _ => least + random.below(most - least + 1),
+        };
+        (self.capacity, self.length) = (capacity as usize, file.len() as u64);
+        let mut bytes = file.to_vec();
+        bytes.resize(self.capacity, 0);
+        random.fill(&mut bytes[file.len()..]);
+        self.put(0, &bytes);
     }
 
     /// The plan of the log's work, unless attach refuses.
