@@ -1,10 +1,12 @@
 //! `attach --apply FILE`: applies the log to the file itself.
 //!
 //! The log is planned first, so that a refusal finds the file untouched, and applied in memory, to a snapshot that nobody else can
-//! change. Then the file is extended to its final length, which is step 0 of the log's work, and each sector that the log has
-//! changed is written, once, as it is in the end: that is the last of the steps which write it, alone. So whatever a process leaves
-//! that is killed, between two writes or in one, is a state that the theorem of crash safety covers, which speaks of single steps in
-//! any order: running the command again gives what an undisturbed run gives.
+//! change. Then the file is extended to its final length and flushed, and each sector that the log has changed is written, once, as it
+//! is in the end, and flushed.
+//!
+//! Whatever a killed process or a power failure leaves, sectors written, not written or torn, in any order, is a state that the theorem
+//! `PowerSafe` covers: running the command again gives what an undisturbed run gives. The next run may have another capacity, since the
+//! default grows with the file; the theorem covers that too.
 use crate::attach::{Log, Report};
 use crate::output::{Output, Status, Stop};
 use crate::pieces;
@@ -49,8 +51,8 @@ pub fn perform(
     Report::of_attachment(opened, attachment, Log::Applied)
 }
 
-/// Extends the file to its final length, writes what the log has changed, and has all of it reach the disk. What was judged has to
-/// be there still.
+/// Extends the file to its final length, writes what the log has changed, and has each of the two reach the disk. What was judged has
+/// to be there still.
 fn write_out(opened: &Opened, plan: &Plan, applied: &Snapshot) -> Result<(), Stop> {
     writing::require(applied.is_current(), opened)?;
     opened.grow(plan.length)?;

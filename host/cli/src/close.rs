@@ -1,13 +1,13 @@
 //! `close FILE`: closes the log for good.
 //!
-//! Judged and done in memory first, as `attach --apply` does it. Then the file is extended, each sector that the log has changed is
-//! written, and all of it is flushed before the header that says "no log" is written, one page, and flushed too: that header must not
-//! be on the disk before the sectors that the log holds.
+//! Judged and done in memory first, as `attach --apply` does it. Then the file is extended and flushed, each sector that the log has
+//! changed is written, and all of it is flushed before the header that says "no log" is written, one page, and flushed too: that header
+//! must not be on the disk before the sectors that the log holds.
 //!
-//! A process that is killed before the header's write leaves the old header current and the log pending, and the sectors that the log
-//! names with old, new or torn bytes: closing again does all of it anew. After that write all is done. The theorem `CrashSafeClose`
-//! covers each such state, since it is over every list of interrupted closes: a list whose first close is interrupted at the last
-//! sector, the next at the one before, and so on, leaves any bytes in every named sector, the old ones among them.
+//! What is killed, or ended by a power failure, before the header's write leaves the old header current and the log pending, and the
+//! sectors that the log names with old, new or torn bytes: closing again does all of it anew. After that write all is done. The theorem
+//! `PowerSafeClose` covers a kill and a power failure at any moment, and the flush between the sectors and the header is what it
+//! supposes of its caller.
 use crate::json::Object;
 use crate::output::{Output, Status, Stop};
 use crate::progress::timed;
@@ -124,8 +124,8 @@ fn headers_now(file: &File) -> io::Result<[Vec<u8>; 2]> {
     Ok(headers(&first))
 }
 
-/// Extends the file to its final length, writes the sectors, flushes, writes the header and flushes. What was judged has to be there
-/// still, also the header that is written over, which the snapshot does not compare.
+/// Extends the file to its final length, writes the sectors and writes the header, and flushes after each of these. What was judged has
+/// to be there still, also the header that is written over, which the snapshot does not compare.
 fn write_out(
     opened: &Opened,
     plan: &Plan,

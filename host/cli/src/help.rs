@@ -55,15 +55,15 @@ shrunvaki attach --apply FILE [--pieces] [--wait] [--capacity BYTES]
 Does the same to the file itself. It takes an exclusive lock (--wait waits for
 another program's), decides first, prints how many sectors the log writes and
 how far the file will grow, applies the log in memory, extends the file to
-exactly that length, writes each sector that has changed, and flushes. With
-refusals 1 to 8 the file is not touched. Refusals 9 to 15 are of the tables, and
-come after the log: the log is applied then too. It warns where a virtual
-machine of qemu's has the file open for writing.
+exactly that length and flushes, writes each sector that has changed, and
+flushes again. With refusals 1 to 8 the file is not touched. Refusals 9 to 15
+are of the tables, and come after the log: the log is applied then too. It warns
+where a virtual machine of qemu's has the file open for writing.
 
-Killed at any moment, it can be run again: the file is then what an undisturbed
-run would have made it. That is proved of a process that is killed, which tears
-at most the one sector being written. A power failure may tear several sectors
-at once, of which the theorem as it is stated does not speak.
+After a kill or a power failure, at any moment, it can be run again: the file is
+then what an undisturbed run would have made it. That is proved, of a disk that
+keeps what was flushed, whichever of the sectors were written, not written or
+torn by then.
 
 The log stays in the file, and every attach applies it again. Nobody may write
 to the disk in between, or the log would undo it; shrunvaki close ends that.
@@ -93,19 +93,20 @@ may write to the disk. Where no log is pending it says so and changes nothing.
 
 It takes an exclusive lock (--wait waits for another program's), decides first,
 and prints how many sectors the log writes and how far the file will grow. It
-extends the file, writes each sector that has changed, flushes, and only then
-writes the header, and flushes again: the header that says \"no log\" never is on
-the disk before the sectors. With a refusal, 1 to 8 or 23, the file is not
-touched. It reads no tables: it does not print what the disk is, and closes the
-log of a file whose tables attach refuses, by 9 to 15, too.
+extends the file and flushes, writes each sector that has changed, flushes, and
+only then writes the header, and flushes again: the header that says \"no log\"
+never is on the disk before the sectors. With a refusal, 1 to 8 or 23, the file
+is not touched. It reads no tables: it does not print what the disk is, and
+closes the log of a file whose tables attach refuses, by 9 to 15, too.
 
   --identifier GUID  the file-write identifier: 8-4-4-4-12 hexadecimal digits,
                      in braces or not. By default a random one, which is printed
                      before anything is written
 
-Killed at any moment, it can be run again. With the same identifier the file is
-then what an undisturbed run would have made it. With another one the file has
-the first or the second identifier, and nothing else differs.
+After a kill or a power failure, at any moment, it can be run again. With the
+same identifier the file is then what an undisturbed run would have made it.
+With another one the file has the first or the second identifier, and nothing
+else differs.
 ";
 
 const LOOKUP: &str = "\

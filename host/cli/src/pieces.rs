@@ -4,16 +4,16 @@
 //! process may map, and of its tables nothing is read.
 //!
 //! To apply a log, the library is run twice: first to count, so that a refusal or a log that asks for too much finds the file
-//! untouched, then to write, each sector as often as the log names it, in its order. These are the single steps that the theorem of
-//! crash safety speaks of. Nothing of the file is kept between the two runs, so the second has to ask for what the first did: where
-//! somebody changes the file without a lock, it may not.
+//! untouched, then to write, each sector as often as the log names it, in its order. Growth is flushed before the first of them, and all
+//! of it in the end. What a killed process or a power failure leaves is covered by the theorem `PowerSafe`, as for `apply.rs`. Nothing
+//! of the file is kept between the two runs, so the second has to ask for what the first did: where somebody changes the file without
+//! a lock, it may not.
 use crate::apply::broken_off;
 use crate::attach::{Log, Report};
 use crate::output::{note, Stop};
 use crate::progress::{timed, Progress};
 use crate::source::{Opened, Source};
 use crate::text::size;
-use crate::writing;
 use shrunvaki::vhdx::pieces::{drive, Work};
 use shrunvaki::vhdx::{Plan, Refusal};
 use std::io::{self, ErrorKind};
@@ -111,9 +111,7 @@ fn write(opened: &Opened, plan: &Plan) -> Result<(), Stop> {
     });
     drop(progress);
     match done {
-        Ok(Ok(done)) if done == *plan => {
-            writing::flush(opened).map_err(|error| broken_off(opened, &error))
-        }
+        Ok(Ok(done)) if done == *plan => opened.flush().map_err(|error| broken_off(opened, &error)),
         Ok(_) => Err(changed()),
         Err(Early::Failed(error)) if error.kind() == ErrorKind::UnexpectedEof => Err(changed()),
         Err(Early::Failed(error)) => Err(broken_off(opened, &error)),

@@ -167,15 +167,22 @@ impl Opened {
         Ok(Image::new(buffer, self.length))
     }
 
-    /// Extends the file with zeros.
+    /// Extends the file with zeros and flushes it, before any sector is written: where the old end lies inside a block of the disk, the
+    /// file system may write that block anew, which holds bytes that no log names. That is over then.
     pub fn grow(&self, length: u64) -> Result<(), Stop> {
         if length <= self.length {
             return Ok(());
         }
-        self.file.set_len(length).map_err(|error| {
+        let grown = self.file.set_len(length).and_then(|()| self.flush());
+        grown.map_err(|error| {
             let (name, length) = (&self.name, size(length));
             Stop::failed(format!("{name}: cannot grow to {length}: {error}"))
         })
+    }
+
+    /// Has all that was written reach the disk.
+    pub fn flush(&self) -> io::Result<()> {
+        timed("flushing", || self.file.sync_all())
     }
 
     /// Whether a buffer can hold the file, or as much of it as the capacity allows.

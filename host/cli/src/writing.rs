@@ -1,6 +1,6 @@
 //! How what a log changes reaches the file: what `attach --apply`, also in pieces, and `close` share.
 use crate::output::{note, Output, Stop};
-use crate::progress::{timed, Progress};
+use crate::progress::Progress;
 use crate::snapshot::Snapshot;
 use crate::source::Opened;
 use crate::text::size;
@@ -43,9 +43,5 @@ pub fn write_out(opened: &Opened, changed: &Snapshot, range: Range<u64>) -> io::
     let end = range.end;
     let mut progress = Progress::new("writing", 1);
     changed.write_to(&opened.file, range, |done| progress.at(done, end))?;
-    flush(opened)
-}
-
-pub fn flush(opened: &Opened) -> io::Result<()> {
-    timed("flushing", || opened.file.sync_all())
+    opened.flush()
 }

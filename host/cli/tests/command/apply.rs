@@ -1,7 +1,8 @@
 //! `attach --apply`: what it does to the file, and when it does nothing; and what it has in common in pieces, and `close` with it.
 use crate::close::{closed, STORED, WRITTEN};
 use crate::sample::{bytes, in_shell, Sample, PROGRAM};
-use shrunvaki_testkit::pending::{r1, rich, sample_file, small_blocks};
+use crate::watched::Watched;
+use shrunvaki_testkit::pending::{assert_same, r1, rich, sample_file, small_blocks};
 use std::fs::File;
 use std::io::{BufRead, BufReader};
 use std::process::{Child, Command, Stdio};
@@ -98,6 +99,25 @@ fn a_limit_for_the_size_of_files_is_an_error() {
         assert!(ran.with(2).errors.contains("cannot grow to 5 MiB"));
         sample.assert_unchanged();
         sample.run(command, more).with(0);
+    }
+}
+
+#[test]
+fn growth_that_does_not_reach_the_disk_is_an_error() {
+    let watched = Watched::new();
+    for (command, more) in WRITERS {
+        let sample = Sample::pending();
+        let words = [&[command], more].concat();
+        let ran = watched.run(&words, &sample, &[("FAIL_AT_FLUSH", "1")]);
+        let errors = ran.with(2).errors;
+        let told = "cannot grow to 5 MiB (5,242,880 bytes): Input/output error";
+        assert!(errors.contains(told), "{errors}");
+        // no sector was written
+        let mut grown = sample.bytes.clone();
+        grown.resize(5 << 20, 0);
+        assert_same(&sample.now(), &grown, command);
+        sample.run(command, more).with(0);
+        assert_same(&sample.now(), &written_by(command), command);
     }
 }
 

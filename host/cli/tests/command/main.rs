@@ -13,3 +13,4 @@ mod parent;
 mod pieces;
 mod sample;
 mod usage;
+mod watched;

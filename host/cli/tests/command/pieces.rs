@@ -1,8 +1,8 @@
 //! `attach --pieces` and `attach --apply --pieces`: the same as without the option, but for what the tables say. What has to hold of
 //! every command that changes a file is in `apply.rs`, logs that ask for much are in `limits.rs`.
 use crate::changing::change_when_judged;
-use crate::crash::{Operation, Watched};
 use crate::sample::{bytes, shrunvaki, zeroing, Sample, PROGRAM};
+use crate::watched::{Operation, Watched};
 use shrunvaki::vhdx::Refusal;
 use shrunvaki_testkit::command::Ran;
 use shrunvaki_testkit::files::{of_qemu, pending, refused};
@@ -154,18 +154,15 @@ fn it_writes_in_the_order_of_the_steps() {
         without_a_log(),
     ] {
         let (_, length) = pending.applied();
-        let grows = (length > pending.image.length).then_some(Operation::Length(length as usize));
-        let sectors = pending.replay.sectors.iter();
-        let writes = sectors.map(|(at, bytes)| Operation::Write {
-            at: *at,
-            length: bytes.len(),
-        });
-        let expected: Vec<Operation> = grows
-            .into_iter()
-            .chain(writes)
-            .chain([Operation::Flush])
-            .collect();
-        assert_eq!(watched.operations(&APPLY, &pending), expected);
+        let operations = watched.operations(&APPLY, &pending);
+        let mut expected = Vec::new();
+        if length > pending.image.length {
+            expected.extend([Operation::Length(length as usize), Operation::Flush]);
+        }
+        let sectors = pending.replay.sectors.into_iter();
+        expected.extend(sectors.map(|(at, bytes)| Operation::Write { at, bytes }));
+        expected.push(Operation::Flush);
+        assert_eq!(operations, expected);
     }
 }
 
@@ -199,7 +196,7 @@ fn a_disk_that_fails_is_told_of() {
     for failing in [
         ("FAIL_AT_WRITE", "1"),
         ("FAIL_AT_WRITE", "9"),
-        ("FAIL_AT_FLUSH", "1"),
+        ("FAIL_AT_FLUSH", "2"),
     ] {
         let sample = Sample::pending();
         let ran = watched.run(&APPLY, &sample, &[failing]).with(2);

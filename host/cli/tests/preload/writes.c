@@ -8,6 +8,7 @@
  * FAIL_AT_WRITE  n, counted from 1: the n-th write fails
  * FAIL_AT_FLUSH  n, counted from 1: the n-th flush fails
  * NOTE_IN        a file that gets a line for each "length BYTES", "write OFFSET BYTES" and "flush"
+ * BYTES_IN       a file that gets the bytes of each write, one behind the other
  */
 #define _GNU_SOURCE
 #include <dlfcn.h>
@@ -42,6 +43,16 @@ static void note(const char *format, long first, long second)
     }
 }
 
+static void keep(const void *bytes, size_t length)
+{
+    const char *path = getenv("BYTES_IN");
+    FILE *file = path ? fopen(path, "a") : NULL;
+    if (file) {
+        fwrite(bytes, 1, length, file);
+        fclose(file);
+    }
+}
+
 static int fails(void)
 {
     errno = EIO;
@@ -59,6 +70,7 @@ ssize_t pwrite64(int file, const void *bytes, size_t length, off64_t offset)
         kill(getpid(), SIGKILL);
     }
     note("write %ld %ld\n", offset, length);
+    keep(bytes, length);
     return n == number("FAIL_AT_WRITE") ? fails() : real(file, bytes, length, offset);
 }
 
