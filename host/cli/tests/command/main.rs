@@ -11,6 +11,7 @@ mod lookup;
 mod output;
 mod parent;
 mod pieces;
+mod power;
 mod sample;
 mod usage;
 mod watched;
