@@ -151,6 +151,9 @@ impl<B: AsRef<[u8]> + AsMut<[u8]>> Image<B> {
     ///
     /// After calls that were interrupted anywhere, one close with the same identifier makes the image what an undisturbed one would
     /// have made it. With another identifier the first stays where its header was written already.
+    ///
+    /// The header must not reach the disk before the sectors, or a power failure may lose the log. So where the buffer is written
+    /// through to a file, as [`MappingMut::shared`] is, do the steps and flush before the last.
     pub fn close(&mut self, identifier: &[u8; 16]) -> Result<Closed, Refusal> {
         let (refusal, [_, length, count]) =
             raw::close(self.buffer.as_mut(), self.length, identifier);
