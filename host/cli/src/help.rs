@@ -61,9 +61,9 @@ are of the tables, and come after the log: the log is applied then too. It warns
 where a virtual machine of qemu's has the file open for writing.
 
 After a kill or a power failure, at any moment, it can be run again: the file is
-then what an undisturbed run would have made it. That is proved, of a disk that
-keeps what was flushed, whichever of the sectors were written, not written or
-torn by then.
+then what an undisturbed run would have made it. That is proved, whichever of
+the sectors were written, not written or torn by then, of a disk that keeps what
+was flushed and damages nothing beside what it is writing.
 
 The log stays in the file, and every attach applies it again. Nobody may write
 to the disk in between, or the log would undo it; shrunvaki close ends that.

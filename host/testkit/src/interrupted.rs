@@ -131,7 +131,7 @@ impl Compared {
     }
 
     /// A file in another buffer, which holds at least so many bytes, and anything past the file's end.
-    pub fn lend(&mut self, random: &mut Random, file: &[u8], least: u64) {
+    pub fn reopen(&mut self, random: &mut Random, file: &[u8], least: u64) {
         let capacity = least + random.pick(&[0, 1, 511, 4096, 100_000]);
         self.expected.clear();
         self.expected.extend_from_slice(file);

@@ -69,7 +69,7 @@ enum Kind {
     InterruptedGrowth,
     TornWrite,
     Lost,
-    Lent,
+    Reopened,
     Flush,
     Failure,
     /// A power failure that made the file shorter.
@@ -187,7 +187,7 @@ impl<'a> File<'a> {
 
     /// What is left of a call is taken up in another buffer.
     fn leave(&mut self, random: &mut Random, left: &[u8], kind: Kind, call: &str) {
-        self.now.lend(random, left, self.case.answer.length);
+        self.now.reopen(random, left, self.case.answer.length);
         self.reach(kind);
         self.check(call);
     }
@@ -205,9 +205,9 @@ impl<'a> File<'a> {
     }
 
     /// The same file in another buffer.
-    fn lend(&mut self, random: &mut Random) {
+    fn reopen(&mut self, random: &mut Random) {
         let file = self.now.file().to_vec();
-        self.leave(random, &file, Kind::Lent, "another buffer");
+        self.leave(random, &file, Kind::Reopened, "another buffer");
     }
 
     fn flush(&mut self) {
@@ -381,7 +381,7 @@ fn call(random: &mut Random, file: &mut File) {
         3..=5 => file.step(k),
         6 | 7 => file.interrupt_step(random, k),
         8 => file.lose(random),
-        9 => file.lend(random),
+        9 => file.reopen(random),
         10 => file.flush(),
         _ => file.fail(random),
     }

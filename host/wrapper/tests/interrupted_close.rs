@@ -82,7 +82,7 @@ enum Kind {
     WholeHeader,
     LostSectors,
     LostHeader,
-    Lent,
+    Reopened,
     Flush,
     Failure,
     /// A power failure after which a file was not closed any more that had been.
@@ -300,7 +300,7 @@ impl<'a> File<'a> {
     fn take_up(&mut self, random: &mut Random, file: &[u8]) {
         let closing = &self.case.closing;
         let least = closing.pending.replay.grown(file.len() as u64);
-        self.now.lend(random, file, least);
+        self.now.reopen(random, file, least);
         let header = (closing.steps.sectors).get(closing.pending.replay.sectors.len());
         let is_there = header.is_none_or(|(at, bytes)| file[*at..].starts_with(bytes));
         self.closed = closing.refusal == 0 && is_there;
@@ -344,10 +344,10 @@ impl<'a> File<'a> {
     }
 
     /// The same file in another buffer.
-    fn lend(&mut self, random: &mut Random) {
+    fn reopen(&mut self, random: &mut Random) {
         let file = self.now.file().to_vec();
         self.take_up(random, &file);
-        self.reach(Kind::Lent);
+        self.reach(Kind::Reopened);
         self.check("another buffer");
     }
 
@@ -525,7 +525,7 @@ fn call(random: &mut Random, file: &mut File) {
             }
         }
         10 => file.lose(random),
-        11 => file.lend(random),
+        11 => file.reopen(random),
         12 => file.flush(),
         13 | 14 => file.fail(random),
         _ => {

@@ -93,7 +93,7 @@ fn after_a_power_failure_it_can_be_run_again() {
             for _ in 0..20 {
                 let done = &operations[..done];
                 let left = after_power_failure(&mut random, bytes(&pending), done);
-                again.lend(&mut random, &left, expected.len() as u64);
+                again.reopen(&mut random, &left, expected.len() as u64);
                 let answer = vhdx::close(&mut again.buffer, again.length, &STORED);
                 assert_eq!(answer.refusal, 0, "after {done:?}");
                 let file = &again.buffer[..answer.length as usize];

@@ -67,7 +67,7 @@ impl Undisturbed {
 
     /// That attaching what is left of the file gives the same, in a buffer of some length.
     fn assert_attached(&self, random: &mut Random, again: &mut Compared, left: &[u8]) {
-        again.lend(random, left, self.answer.length);
+        again.reopen(random, left, self.answer.length);
         let answer = vhdx::attach(&mut again.buffer, again.length);
         assert_eq!(answer, self.answer);
         let file = &again.buffer[..answer.length as usize];

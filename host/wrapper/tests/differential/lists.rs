@@ -29,7 +29,7 @@ struct Met {
     headers: u64,
     calls: u64,
     lost: u64,
-    lent: u64,
+    reopened: u64,
     flushes: u64,
     failures: u64,
 }
@@ -42,7 +42,7 @@ impl Met {
             self.writes,
             self.calls,
             self.lost,
-            self.lent,
+            self.reopened,
             self.flushes,
             self.failures,
         ];
@@ -142,8 +142,8 @@ impl<'a> Disk<'a> {
         match random.below(4) {
             0 => {
                 let file = pair.file().to_vec();
-                pair.lend(random, &file, least);
-                met.lent += 1;
+                pair.reopen(random, &file, least);
+                met.reopened += 1;
                 false
             }
             1 => {
@@ -153,13 +153,13 @@ impl<'a> Disk<'a> {
             }
             2 => {
                 let left = lost(random, pair.file());
-                pair.lend(random, &left, least);
+                pair.reopen(random, &left, least);
                 met.lost += 1;
                 true
             }
             _ => {
                 self.flushed = lost(random, &self.flushed);
-                pair.lend(random, &self.flushed, least);
+                pair.reopen(random, &self.flushed, least);
                 met.failures += 1;
                 true
             }

@@ -54,7 +54,7 @@ impl Pair {
 
     /// Takes up what is left of the file, in another part of the buffers here, which holds at least so many bytes, and anything past the
     /// file's end.
-    pub fn lend(&mut self, random: &mut Random, file: &[u8], least: u64) {
+    pub fn reopen(&mut self, random: &mut Random, file: &[u8], least: u64) {
         let most = self.model.len() as u64;
         let capacity = match random.below(4) {
             0 => least,
