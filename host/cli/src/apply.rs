@@ -1,8 +1,8 @@
 //! `attach --apply FILE`: applies the log to the file itself.
 //!
 //! The log is planned first, so that a refusal finds the file untouched, and applied in memory, to a snapshot that nobody else can
-//! change. Then the file is extended to its final length and flushed, and each sector that the log has changed is written, once, as it
-//! is in the end, and flushed.
+//! change. Then the file as it came is flushed; it is extended to its final length, and flushed; and each sector that the log has changed
+//! is written, once, as it is in the end, and flushed.
 //!
 //! Whatever a killed process or a power failure leaves, sectors written, not written or torn, in any order, is a state that the theorem
 //! `PowerSafe` covers: running the command again gives what an undisturbed run gives. The next run may have another capacity, since the
@@ -51,9 +51,10 @@ pub fn perform(
     Report::of_attachment(opened, attachment, Log::Applied)
 }
 
-/// Extends the file to its final length, writes what the log has changed, and has each of the two reach the disk. What was judged has
-/// to be there still.
+/// Extends the file to its final length, writes what the log has changed, and has the file reach the disk before and after each of the
+/// two. What was judged has to be there still.
 fn write_out(opened: &Opened, plan: &Plan, applied: &Snapshot) -> Result<(), Stop> {
+    opened.settle()?;
     writing::require(applied.is_current(), opened)?;
     opened.grow(plan.length)?;
     writing::write_out(opened, applied, 0..plan.length).map_err(|error| broken_off(opened, &error))

@@ -1,8 +1,8 @@
 //! `close FILE`: closes the log for good.
 //!
-//! Judged and done in memory first, as `attach --apply` does it. Then the file is extended and flushed, each sector that the log has
-//! changed is written, and all of it is flushed before the header that says "no log" is written, one page, and flushed too: that header
-//! must not be on the disk before the sectors that the log holds.
+//! Judged and done in memory first, as `attach --apply` does it. Then the file as it came is flushed, it is extended and flushed, each
+//! sector that the log has changed is written, and all of it is flushed before the header that says "no log" is written, one page, and
+//! flushed too: that header must not be on the disk before the sectors that the log holds.
 //!
 //! What is killed, or ended by a power failure, before the header's write leaves the old header current and the log pending, and the
 //! sectors that the log names with old, new or torn bytes: closing again does all of it anew. After that write all is done. The theorem
@@ -124,8 +124,8 @@ fn headers_now(file: &File) -> io::Result<[Vec<u8>; 2]> {
     Ok(headers(&first))
 }
 
-/// Extends the file to its final length, writes the sectors and writes the header, and flushes after each of these. What was judged has
-/// to be there still, also the header that is written over, which the snapshot does not compare.
+/// Extends the file to its final length, writes the sectors and writes the header, and flushes before these and after each. What was
+/// judged has to be there still, also the header that is written over, which the snapshot does not compare.
 fn write_out(
     opened: &Opened,
     plan: &Plan,
@@ -136,6 +136,7 @@ fn write_out(
         let name = &opened.name;
         Stop::failed(format!("{name}: {error}; {left}"))
     };
+    opened.settle()?;
     let current = closed
         .is_current()
         .and_then(|current| Ok(current && headers_now(&opened.file)? == *judged));

@@ -54,11 +54,12 @@ shrunvaki attach --apply FILE [--pieces] [--wait] [--capacity BYTES]
 
 Does the same to the file itself. It takes an exclusive lock (--wait waits for
 another program's), decides first, prints how many sectors the log writes and
-how far the file will grow, applies the log in memory, extends the file to
-exactly that length and flushes, writes each sector that has changed, and
-flushes again. With refusals 1 to 8 the file is not touched. Refusals 9 to 15
-are of the tables, and come after the log: the log is applied then too. It warns
-where a virtual machine of qemu's has the file open for writing.
+how far the file will grow, applies the log in memory, flushes the file as it
+is, extends it to exactly that length and flushes, writes each sector that has
+changed, and flushes again. With refusals 1 to 8 the file is not touched.
+Refusals 9 to 15 are of the tables, and come after the log: the log is applied
+then too. It warns where a virtual machine of qemu's has the file open for
+writing.
 
 After a kill or a power failure, at any moment, it can be run again: the file is
 then what an undisturbed run would have made it. That is proved, whichever of
@@ -93,11 +94,12 @@ may write to the disk. Where no log is pending it says so and changes nothing.
 
 It takes an exclusive lock (--wait waits for another program's), decides first,
 and prints how many sectors the log writes and how far the file will grow. It
-extends the file and flushes, writes each sector that has changed, flushes, and
-only then writes the header, and flushes again: the header that says \"no log\"
-never is on the disk before the sectors. With a refusal, 1 to 8 or 23, the file
-is not touched. It reads no tables: it does not print what the disk is, and
-closes the log of a file whose tables attach refuses, by 9 to 15, too.
+flushes the file as it is, extends it and flushes, writes each sector that has
+changed, flushes, and only then writes the header, and flushes again: the header
+that says \"no log\" never is on the disk before the sectors. With a refusal,
+1 to 8 or 23, the file is not touched. It reads no tables: it does not print
+what the disk is, and closes the log of a file whose tables attach refuses, by
+9 to 15, too.
 
   --identifier GUID  the file-write identifier: 8-4-4-4-12 hexadecimal digits,
                      in braces or not. By default a random one, which is printed

@@ -4,8 +4,8 @@
 //! process may map, and of its tables nothing is read.
 //!
 //! To apply a log, the library is run twice: first to count, so that a refusal or a log that asks for too much finds the file
-//! untouched, then to write, each sector as often as the log names it, in its order. Growth is flushed before the first of them, and all
-//! of it in the end. What a killed process or a power failure leaves is covered by the theorem `PowerSafe`, as for `apply.rs`. Nothing
+//! untouched, then to write, each sector as often as the log names it, in its order. The file as it came is flushed before that, growth
+//! before the first sector, and all of it in the end. What a killed process or a power failure leaves is covered by the theorem `PowerSafe`, as for `apply.rs`. Nothing
 //! of the file is kept between the two runs, so the second has to ask for what the first did: where somebody changes the file without
 //! a lock, it may not.
 use crate::apply::broken_off;
@@ -97,6 +97,7 @@ fn write(opened: &Opened, plan: &Plan) -> Result<(), Stop> {
              what attach says of the file now"
         ))
     };
+    opened.settle()?;
     let mut progress = Progress::new("writing", 1);
     let mut written = 0;
     let done = run(opened, |work| match work {

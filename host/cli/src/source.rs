@@ -167,6 +167,17 @@ impl Opened {
         Ok(Image::new(buffer, self.length))
     }
 
+    /// Has the file as it came reach the disk, before anything is written to it. A copy that was just made may not be there, and a power
+    /// failure would take it back together with its log.
+    pub fn settle(&self) -> Result<(), Stop> {
+        self.flush().map_err(|error| {
+            let name = &self.name;
+            Stop::failed(format!(
+                "{name}: cannot be flushed: {error}; nothing was written"
+            ))
+        })
+    }
+
     /// Extends the file with zeros and flushes it, before any sector is written: where the old end lies inside a block of the disk, the
     /// file system may write that block anew, which holds bytes that no log names. That is over then.
     pub fn grow(&self, length: u64) -> Result<(), Stop> {

@@ -103,12 +103,26 @@ fn a_limit_for_the_size_of_files_is_an_error() {
 }
 
 #[test]
-fn growth_that_does_not_reach_the_disk_is_an_error() {
+fn a_file_that_does_not_reach_the_disk_is_not_written_to() {
     let watched = Watched::new();
     for (command, more) in WRITERS {
         let sample = Sample::pending();
         let words = [&[command], more].concat();
         let ran = watched.run(&words, &sample, &[("FAIL_AT_FLUSH", "1")]);
+        let told = "cannot be flushed: Input/output error (os error 5); nothing was written";
+        assert!(ran.with(2).errors.contains(told));
+        sample.assert_unchanged();
+        sample.run(command, more).with(0);
+    }
+}
+
+#[test]
+fn growth_that_does_not_reach_the_disk_is_an_error() {
+    let watched = Watched::new();
+    for (command, more) in WRITERS {
+        let sample = Sample::pending();
+        let words = [&[command], more].concat();
+        let ran = watched.run(&words, &sample, &[("FAIL_AT_FLUSH", "2")]);
         let errors = ran.with(2).errors;
         let told = "cannot grow to 5 MiB (5,242,880 bytes): Input/output error";
         assert!(errors.contains(told), "{errors}");

@@ -27,8 +27,8 @@ fn the_sectors_are_flushed_before_the_header_is_written() {
     // where the header lands that was not current
     for (pending, slot) in images().into_iter().zip(HEADERS) {
         let operations = watched.operations(&CLOSE, &pending);
-        let [growth, sectors, header, []] = between_flushes(&operations)[..] else {
-            panic!("three flushes, the last at the end: {operations:?}")
+        let [[], growth, sectors, header, []] = between_flushes(&operations)[..] else {
+            panic!("four flushes, at the start and at the end: {operations:?}")
         };
         let (_, length) = pending.applied();
         assert_eq!(growth, [Operation::Length(length as usize)]);
@@ -113,9 +113,9 @@ fn a_disk_that_fails_is_told_of() {
     for (variable, n, told) in [
         ("FAIL_AT_WRITE", "1", still),
         ("FAIL_AT_WRITE", "2", still),
-        ("FAIL_AT_FLUSH", "2", still),
+        ("FAIL_AT_FLUSH", "3", still),
         ("FAIL_AT_WRITE", "3", perhaps),
-        ("FAIL_AT_FLUSH", "3", perhaps),
+        ("FAIL_AT_FLUSH", "4", perhaps),
     ] {
         let sample = Sample::new(bytes(&pending));
         let ran = watched.run(&CLOSE, &sample, &[(variable, n)]).with(2);

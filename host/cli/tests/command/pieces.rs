@@ -155,7 +155,7 @@ fn it_writes_in_the_order_of_the_steps() {
     ] {
         let (_, length) = pending.applied();
         let operations = watched.operations(&APPLY, &pending);
-        let mut expected = Vec::new();
+        let mut expected = vec![Operation::Flush];
         if length > pending.image.length {
             expected.extend([Operation::Length(length as usize), Operation::Flush]);
         }
@@ -196,7 +196,7 @@ fn a_disk_that_fails_is_told_of() {
     for failing in [
         ("FAIL_AT_WRITE", "1"),
         ("FAIL_AT_WRITE", "9"),
-        ("FAIL_AT_FLUSH", "2"),
+        ("FAIL_AT_FLUSH", "3"),
     ] {
         let sample = Sample::pending();
         let ran = watched.run(&APPLY, &sample, &[failing]).with(2);

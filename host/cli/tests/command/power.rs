@@ -29,16 +29,16 @@ fn growth_is_flushed_before_the_first_sector_is_written() {
     for words in APPLY {
         for pending in images() {
             let operations = watched.operations(words, &pending);
-            let [growth, sectors, []] = between_flushes(&operations)[..] else {
-                panic!("two flushes, the second at the end: {operations:?}")
+            let [[], growth, sectors, []] = between_flushes(&operations)[..] else {
+                panic!("three flushes, at the start and at the end: {operations:?}")
             };
             let (_, length) = pending.applied();
             assert_eq!(growth, [Operation::Length(length as usize)]);
             assert_only_writes(sectors);
         }
         let operations = watched.operations(words, &no_growth());
-        let [sectors, []] = between_flushes(&operations)[..] else {
-            panic!("one flush, at the end: {operations:?}")
+        let [[], sectors, []] = between_flushes(&operations)[..] else {
+            panic!("two flushes, at the start and at the end: {operations:?}")
         };
         assert_only_writes(sectors);
     }
