@@ -125,7 +125,8 @@ impl<B: AsRef<[u8]> + AsMut<[u8]>> Image<B> {
     /// Applies the log, then reads the tables.
     ///
     /// The log stays in the image: attaching again does the same work and gives the same. After calls that were interrupted
-    /// anywhere, one attach makes the image what an undisturbed one would have made it.
+    /// anywhere, or ended by a power failure, one attach makes the image what an undisturbed one would have made it: at the length
+    /// that the file then has, in any buffer that holds the answered length.
     pub fn attach(&mut self) -> Attachment {
         let (refusal, slots) = raw::attach(self.buffer.as_mut(), self.length);
         self.length = slots[1];
@@ -165,7 +166,8 @@ impl<B: AsRef<[u8]> + AsMut<[u8]>> Image<B> {
     }
 
     /// Does one step of closing alone: those of the log's work, then the header's, which is step `count` + 1. Answers the length
-    /// after it. They are to be done in order, from 0 again after an interruption: a header before its sectors loses the log.
+    /// after it. They are to be done in order, from 0 again after an interruption or a power failure: a header before its sectors
+    /// loses the log.
     pub fn close_step(&mut self, identifier: &[u8; 16], k: u64) -> Result<u64, Refusal> {
         let (refusal, [_, length]) =
             raw::close_step(self.buffer.as_mut(), self.length, identifier, k);

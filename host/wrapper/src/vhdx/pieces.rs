@@ -279,8 +279,8 @@ pub fn plan<S: Read + Seek>(
 /// Applies the log: makes the file as long as it has to be, writes every sector, and flushes. Answers the file's length and the
 /// count of sectors, or one of refusals 1 to 8, before which nothing was written unless the file changed meanwhile.
 ///
-/// `length` is the file's own. The log stays in the file: after an error or an interruption, applying it again makes all good. Of
-/// a file on a disk, [`sync_all`](std::fs::File::sync_all) is left to the caller.
+/// `length` is the file's own. The log stays in the file: after an error, an interruption or a power failure, applying it again makes
+/// all good. Of a file on a disk, [`sync_all`](std::fs::File::sync_all) is left to the caller.
 ///
 /// Errors are those of the file. One that ends before `length` is of kind [`UnexpectedEof`](io::ErrorKind::UnexpectedEof).
 pub fn apply<F: Read + Write + Seek>(
