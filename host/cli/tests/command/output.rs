@@ -85,8 +85,9 @@ fn a_signal_ends_the_demonstration_and_its_folder() {
         // a pipe that is full, so that the demonstration waits in the middle
         let (_reader, mut writer) = io::pipe().expect("a pipe");
         writer.write_all(&[b' '; 65536]).expect("a full pipe");
-        let mut child = Command::new(PROGRAM)
-            .arg("demo")
+        // the tests may have been started by nohup, whose children ignore SIGHUP
+        let mut child = Command::new("env")
+            .args(["--default-signal=HUP,INT,TERM", PROGRAM, "demo"])
             .env("TMPDIR", folder.path())
             .stdout(writer)
             .spawn()
