@@ -27,7 +27,7 @@ use Rattle.vhdx_walk.specs.Bytes.{entriesFrom}
 use Rattle.vhdx_log.specs.Work.{finalLength, someLies, Plan, refused, apply, applyWithin, work}
 use Rattle.vhdx_log.specs.Plan.{logBytes, extentOf, planSequence, planLog, planHeader, plan}
 use Rattle.vhdx_steps.specs.Steps.{File}
-use Rattle.vhdx.specs.Refusals.{firstOf, finalLengthOf, ofSome, isNone, headerIn, activeOf, entriesOf, row1, row2, row4, row5, row6, row7, row8, rows, firstRow, refusalOfPlan, ByTheTable}
+use Rattle.vhdx.specs.Refusals.{firstOf, finalOf, ofSome, isNone, headerIn, activeOf, entriesOf, row1, row2, row4, row5, row6, row7, row8, rows, firstRow, refusalOfPlan, ByTheTable}
 
 -- ---- tests, either way round
 
@@ -95,7 +95,7 @@ module _ (f : File) where
       cond (not z && isNone active) (some 5)
       (cond (ofSome active (λ (x : Sequence). ltb (f .size) (head (entriesOf f h x) .flushed))) (some 6)
       (cond (ofSome active (λ (x : Sequence). someLies (extentOf h) (sectors (allDescriptors (entriesOf f h x))))) (some 7)
-      (cond (ltb (length (f .buffer)) (finalLengthOf f h active) || ltb lengthLimit (finalLengthOf f h active)) (some 8) none)))
+      (cond (ltb (length (f .buffer)) (finalOf f h active) || ltb lengthLimit (finalOf f h active)) (some 8) none)))
 
   in-table : (h : Header) (z : Bool) (q : Option Sequence) → sequenceRows h z q ≡ tableRows h z q
   unfolding sequenceRows tableRows

@@ -1,8 +1,8 @@
 -- Demand 3 for closing a log (change request Q-6), with document 01's table as its premise: after any list of closes and of their steps,
 -- each run to its end, refused or interrupted, one undisturbed close leaves what closing the original leaves, and nothing but the named
 -- sectors and one header slot was touched on the way. The list, the order of its steps and the premise that a half-written header is
--- not valid are `Calls` of vhdx_close. `CrashSafeClose` is the claim, as document 02 words it; `PowerSafeClose` says the same of power
--- failures (specs/Failures.antt of vhdx_close), and `CrashSafeClose` follows from it. Both are proved in proofs/CloseSafety.antt.
+-- not valid are `Calls` of vhdx_close_steps. `CrashSafeClose` is the claim, as document 02 words it; `PowerSafeClose` says the same of
+-- power failures (specs/Failures.antt there), and `CrashSafeClose` follows from it. Both are proved in proofs/CloseSafety.antt.
 --
 -- That a close which really stops leaves one of these states rests on what CrashSafety.antt says of attach, and on one thing more that
 -- the code shows: the header is put together in an array of its own, and its write stores only inside its slot (`vhdx_rewrite`, `write`).

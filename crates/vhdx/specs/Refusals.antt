@@ -49,9 +49,9 @@ unfoldable pub entriesOf : File → Header → Sequence → Entries
 entriesOf f h q = entriesFrom (logBytes h (f .buffer)) (q .start) (q .more)
 
 -- the final length; without a sequence the given one
-abbrev pub finalLengthOf : File → Header → Option Sequence → ℕ
-finalLengthOf f h none = f .size
-finalLengthOf f h (some q) = finalLength (entriesOf f h q) (f .size)
+abbrev pub finalOf : File → Header → Option Sequence → ℕ
+finalOf f h none = f .size
+finalOf f h (some q) = finalLength (entriesOf f h q) (f .size)
 
 -- a test of what may not be there: it does not apply then
 abbrev pub ofSome : {A : Type 0} → Option A → (A → Bool) → Bool
@@ -99,7 +99,7 @@ unfoldable pub row8 : Option ℕ → File → Bool
 row8 c f =
     ofSome c
     (λ at.
-    let final = finalLengthOf f (headerIn f at) (activeOf f (headerIn f at)) in
+    let final = finalOf f (headerIn f at) (activeOf f (headerIn f at)) in
     ltb (length (f .buffer)) final || ltb lengthLimit final)
 
 abbrev pub rows : Option ℕ → File → List Row

@@ -1,5 +1,5 @@
--- A log that is closed by calls that may be interrupted, or lost in a power failure: either the header is not yet written, and the steps below the next one in order are
--- done (`Open`); or it is, and the file is what an undisturbed close leaves (`Closed`).
+-- A log that is closed by calls that may be interrupted, or lost in a power failure: either the header is not yet written, and the steps
+-- below the next one in order are done (`Open`); or it is, and the file is what an undisturbed close leaves (`Closed`).
 -- Assumes nothing.
 use mathlib.Core.Path.{_≡_, refl, sym, ap, subst, _∙_}
 use mathlib.Core.Bool.{Bool, true, false}
@@ -548,16 +548,20 @@ module _ (identifier : List ℕ) (sixteen : length identifier ≡ 16) (o : File)
 
   -- ---- after the header is written
 
+  -- a file of the final length of which nothing is lost
+  agree-on : (us : List Sector) {f g G : File} → Lost m [] f g → Agree m us f G → Agree m us g G
+  agree-on us x a =
+      record {
+        big-f = x .capacity (a .big-f);
+        big-g = a .big-g;
+        size-f = omega (arith, x .from, x .to, a .size-f);
+        size-g = a .size-g;
+        rest = λ i l n. x .given i (omega (arith, a .size-f)) (λ y. y) ∙ a .rest i l n;
+      }
+
   closed-torn : (f g : File) → Closed f → TornGrowth m f g → Closed g
   unfolding Closed
-  closed-torn f g a t =
-      record {
-        big-f = omega (arith, t .capacity, a .big-f);
-        big-g = a .big-g;
-        size-f = omega (arith, t .from, t .to, a .size-f);
-        size-g = a .size-g;
-        rest = λ i l z. t .given i (omega (arith, a .size-f)) ∙ a .rest i l z;
-      }
+  closed-torn f g a t = agree-on [] (of-step m [] (grow m) refl (omega (arith, a .size-f)) t) a
 
   closed-grown : (f : File) → Closed f → Closed (run (grow m) f)
   unfolding Closed
@@ -637,25 +641,11 @@ module _ (identifier : List ℕ) (sixteen : length identifier ≡ 16) (o : File)
           progress = tt;
         }
     failed-on n f g (inr a) (sectors-lost l s) =
-        let x : Lost m [] f g = rw (closed-plan log raisable named-bytes bytes f a) at l in
-        inr record {
-          big-f = x .capacity (a .big-f);
-          big-g = a .big-g;
-          size-f = omega (arith, x .from, x .to, a .size-f);
-          size-g = a .size-g;
-          rest = λ i b z. x .given i (omega (arith, a .size-f)) (λ y. y) ∙ a .rest i b z;
-        }
+        inr (agree-on [] (rw (closed-plan log raisable named-bytes bytes f a) at l) a)
     failed-on n f g q (header-lost r w) = interrupted-closed n f g q r w
 
     reopened-agree : (us : List Sector) {f g G : File} → m ≤ length (g .buffer) → Reopened f g → Agree m us f G → Agree m us g G
-    reopened-agree us fits x a =
-        record {
-          big-f = fits;
-          big-g = a .big-g;
-          size-f = x .same-size ∙ a .size-f;
-          size-g = a .size-g;
-          rest = λ i l n. x .same-bytes i (omega (arith, a .size-f)) ∙ a .rest i l n;
-        }
+    reopened-agree us fits x a = agree-on us (reopened-lost m [] (omega (arith, a .size-f)) fits x) a
 
     reopened-progress : (n : ℕ) (f g : File) → m ≤ length (g .buffer) → Reopened f g → Progress n f → Progress n g
     unfolding Progress

@@ -27,8 +27,8 @@ WholeBy (Current h) identifier f g =
 abbrev pub WholeIfValid : List ℕ → File → File → Type 0
 WholeIfValid identifier f g = WholeBy (currentHeader (f .buffer) (f .size)) identifier f g
 
--- a call takes f to g, and the number of the step that is next in order from e to the one behind g: 0 at the start and after each
--- interruption. A step that was done already may be done again; those behind it are then to be done again too
+-- `Call identifier e f e′ g`: a call takes f to g, where step e is next in order before it and step e′ after it. That is 0 at the start
+-- and after each interruption. A step that was done already may be done again; those behind it are then to be done again too
 pub data Call (identifier : List ℕ) (e : ℕ) (f : File) : ℕ → File → Type 0 where
   close : Call identifier e f e (afterClose identifier f)
   step : (k : ℕ) → k ≤ e → Call identifier e f (suc k) (afterCloseStep identifier k f)

@@ -41,7 +41,7 @@ CloseSafe =
     → (o f : File) → Bytes (o .buffer) → (m : ℕ) (ss : List Sector) → planOf o ≡ apply m ss
     → Calls identifier zero o f → (length (f .buffer) ≡ length (o .buffer)) × Recloses identifier o f
 
--- and after every history of calls, flushes and power failures, in whatever buffers
+-- and after every history of calls, flushes and power failures, in whatever buffers that hold the final length
 abbrev pub ClosePowerSafe : Type 0
 ClosePowerSafe =
     (identifier : List ℕ) → length identifier ≡ 16 → Bytes identifier

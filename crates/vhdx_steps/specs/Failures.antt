@@ -38,6 +38,7 @@ pub record Reopened (f g : File) : Type 0 where
 
 -- of a file that came as o, was d when it was last flushed, and is f now
 pub data History (o : File) : File → File → Type 0 where
+  -- the file as it came, which is on the disk
   original : History o o o
   -- a call as document 01 has it: run to its end, refused or interrupted
   called : {d f g : File} → History o d f → Call f g → History o d g

@@ -282,17 +282,24 @@ fn lengths(case: &Case) -> Vec<u64> {
     lengths
 }
 
-#[test]
-fn growth_interrupted_anywhere() {
-    let mut random = Random::new(13);
+/// Each file with something done to it at each of these lengths, then one more attach.
+fn at_each_length(seed: u64, disturb: impl Fn(&mut File, &mut Random, u64)) {
+    let mut random = Random::new(seed);
     for case in &cases() {
         let mut file = File::new(case);
         for length in lengths(case) {
             file.reset();
-            file.interrupt_growth(&mut random, length);
+            disturb(&mut file, &mut random, length);
             file.finish();
         }
     }
+}
+
+#[test]
+fn growth_interrupted_anywhere() {
+    at_each_length(13, |file, random, length| {
+        file.interrupt_growth(random, length);
+    });
 }
 
 #[test]
@@ -313,52 +320,33 @@ fn an_attach_of_what_an_attach_left() {
 
 #[test]
 fn every_named_sector_torn_at_once() {
-    let mut random = Random::new(14);
-    for case in &cases() {
-        let mut file = File::new(case);
-        for length in lengths(case) {
-            file.reset();
-            file.lose_all_at(&mut random, length);
-            file.finish();
-        }
-    }
+    at_each_length(14, |file, random, length| {
+        file.lose_all_at(random, length);
+    });
 }
 
 #[test]
 fn growth_that_is_taken_back_to_the_last_flush() {
-    let mut random = Random::new(15);
-    for case in &cases() {
-        let mut file = File::new(case);
-        for flushed in lengths(case) {
-            file.reset();
-            file.interrupt_growth(&mut random, flushed);
-            file.flush();
-            file.attach();
-            let work = file.work();
-            let left = work.lost_at(&mut random, &file.now.flushed, flushed, 1);
-            file.leave(&mut random, &left, Kind::Failure, "a power failure");
-            file.finish();
-            for _ in 0..4 {
-                file.fail(&mut random);
-                assert!(file.now.length >= flushed, "shorter than was flushed");
-            }
-            file.finish();
+    at_each_length(15, |file, random, flushed| {
+        file.interrupt_growth(random, flushed);
+        file.flush();
+        file.attach();
+        let left = (file.work()).lost_at(random, &file.now.flushed, flushed, 1);
+        file.leave(random, &left, Kind::Failure, "a power failure");
+        file.finish();
+        for _ in 0..4 {
+            file.fail(random);
+            assert!(file.now.length >= flushed, "shorter than was flushed");
         }
-    }
+    });
 }
 
 #[test]
 fn sectors_on_the_disk_past_a_length_that_is_not() {
-    let mut random = Random::new(16);
-    for case in &cases() {
-        let mut file = File::new(case);
-        for length in lengths(case) {
-            file.reset();
-            file.lose_all_at(&mut random, case.answer.length);
-            file.now.length = length;
-            file.finish();
-        }
-    }
+    at_each_length(16, |file, random, length| {
+        file.lose_all_at(random, file.case.answer.length);
+        file.now.length = length;
+    });
 }
 
 // ---- lists of calls

@@ -438,34 +438,35 @@ fn lengths(case: &Case) -> Vec<u64> {
     lengths
 }
 
-#[test]
-fn growth_interrupted_anywhere() {
-    let mut random = Random::new(23);
+/// Each file with something done to it at each of these lengths, then one more close.
+fn at_each_length(seed: u64, disturb: impl Fn(&mut File, &mut Random, u64)) {
+    let mut random = Random::new(seed);
     for case in &cases() {
         let mut file = File::new(case);
         for length in lengths(case) {
             file.reset();
-            file.now.interrupt_growth(&mut random, length);
+            disturb(&mut file, &mut random, length);
             file.finish();
         }
     }
+}
+
+#[test]
+fn growth_interrupted_anywhere() {
+    at_each_length(23, |file, random, length| {
+        file.now.interrupt_growth(random, length);
+    });
 }
 
 // ---- one power failure
 
 #[test]
 fn every_sector_of_a_close_torn_at_once() {
-    let mut random = Random::new(24);
-    for case in &cases() {
-        let mut file = File::new(case);
-        for length in lengths(case) {
-            file.reset();
-            let left = (file.work()).lost_at(&mut random, file.now.file(), length, 1);
-            file.take_up(&mut random, &left);
-            file.check("every sector torn");
-            file.finish();
-        }
-    }
+    at_each_length(24, |file, random, length| {
+        let left = (file.work()).lost_at(random, file.now.file(), length, 1);
+        file.take_up(random, &left);
+        file.check("every sector torn");
+    });
 }
 
 #[test]
