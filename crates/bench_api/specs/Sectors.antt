@@ -11,25 +11,25 @@ use Rattle.vhdx_walk.specs.declared.Next.{Next}
 use Rattle.vhdx_walk.specs.declared.Next.TheVariants.{Sector as Here, End}
 
 -- a sector's kind, and what is written of it: its offset, and where the log holds its bytes
-abbrev pub sourceKind : Source → ℕ
-sourceKind Zeros = 1
-sourceKind (Data descriptor sector) = 2
+abbrev pub source_kind : Source → ℕ
+source_kind Zeros = 1
+source_kind (Data descriptor sector) = 2
 
-abbrev pub sourceIn : Source → List ℕ → List ℕ
-sourceIn Zeros answer = answer
-sourceIn (Data descriptor sector) answer = set (set answer 1 descriptor) 2 sector
+abbrev pub source_in : Source → List ℕ → List ℕ
+source_in Zeros answer = answer
+source_in (Data descriptor sector) answer = set (set answer 1 descriptor) 2 sector
 
 abbrev pub kind_of : Next → ℕ
 kind_of End = 0
-kind_of (Here s) = sourceKind s.source
+kind_of (Here s) = source_kind s.source
 
-abbrev pub nextIn : Next → List ℕ → List ℕ
-nextIn End answer = answer
-nextIn (Here s) answer = sourceIn s.source (set answer 0 s.offset)
+abbrev pub next_in : Next → List ℕ → List ℕ
+next_in End answer = answer
+next_in (Here s) answer = source_in s.source (set answer 0 s.offset)
 
 -- the kind and what was written stand for the expected sector
 pub record Answered (log : List ℕ) (expected : Option Sector) (kind : ℕ) (before after : List ℕ) : Type 0 where
   pub next : Next
   pub is : next_of log next ≡ expected
   pub told : kind ≡ kind_of next
-  pub written : after ≡ nextIn next before
+  pub written : after ≡ next_in next before

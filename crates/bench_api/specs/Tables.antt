@@ -1,12 +1,12 @@
 -- The facts of any image, as the exported function answers them. One of less than 1 MiB is refused as 1, as a caller of the tables
 -- would have done before.
 -- Assumes nothing.
-use Rattle.std.specs.Prelude.{cond, List, ℕ, leb, length}
+use Rattle.std.specs.Prelude.{cond, List, ℕ, nat_le, length}
 use Rattle.decision.specs.Refusal.{refused}
 use Rattle.extent.specs.declared.Extent.{Extent}
-use Rattle.extent.specs.Extent.{MiB}
+use Rattle.extent.specs.Extent.{mib}
 use Rattle.vhdx_tables.specs.declared.Reading.{Reading}
 use Rattle.vhdx_tables.specs.Tables.{tables, reading}
 
 unfoldable pub reading_of : List ℕ → Extent → Reading
-reading_of image log = reading (cond (leb MiB (length image)) (tables image log) (refused 1))
+reading_of image log = reading (cond (nat_le mib (length image)) (tables image log) (refused 1))

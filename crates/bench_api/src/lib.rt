@@ -5,9 +5,9 @@ pub mod tables;
 ghost use Rattle.std.specs.Prelude.{◌≡◌};
 ghost use Rattle.std.proofs.Math.ListN.{get_elem?};
 ghost use Rattle.crc32c.specs.Crc.{crc};
-ghost use Rattle.vhdx_log.specs.Work.{sectorsPlanned};
+ghost use Rattle.vhdx_log.specs.Work.{sectors_planned};
 ghost use Rattle.vhdx_log.specs.Plan.{plan};
-ghost use Rattle.vhdx_log.specs.Answers.{logOf};
+ghost use Rattle.vhdx_log.specs.Answers.{log_of};
 ghost use Rattle.bench_api.specs.Sectors.{Answered};
 
 use vhdx_log::Answer;
@@ -30,7 +30,7 @@ pub extern "C" fn shrunvaki_bench_sector(
     k: u64,
     answer: &mut [u64; 3],
 ) -> u64
-    ensures { Answered (logOf buffer.now length) (get_elem? (sectorsPlanned (plan buffer.now length)) k) result answer.old answer.new }
+    ensures { Answered (log_of buffer.now length) (get_elem? (sectors_planned (plan buffer.now length)) k) result answer.old answer.new }
 {
     match vhdx_log::plan(buffer, length) {
         Answer::Refused(_) => 0,

@@ -1,6 +1,6 @@
 // The facts of an image, in figures.
 ghost use Rattle.std.specs.Prelude.{◌≡◌};
-ghost use Rattle.vhdx_slots.specs.Slots.{factsIn};
+ghost use Rattle.vhdx_slots.specs.Slots.{facts_in};
 ghost use Rattle.bench_api.specs.Tables.{reading_of};
 
 use extent::Extent;
@@ -28,7 +28,7 @@ pub extern "C" fn shrunvaki_bench_tables(
     answer: &mut [u64; 32],
 ) -> u64
     ensures value { result ≡ (reading_of image.now (record { offset = log_offset; length = log_length })).refusal }
-    ensures answer_after { answer.new ≡ factsIn (reading_of image.now (record { offset = log_offset; length = log_length })).facts answer.old }
+    ensures answer_after { answer.new ≡ facts_in (reading_of image.now (record { offset = log_offset; length = log_length })).facts answer.old }
 {
     let reading = read(
         image,

@@ -1,25 +1,25 @@
 // What C and Rust link: the calls over numbers and arrays. Each takes its arrays apart and makes the proved call.
 ghost use Rattle.std.specs.Prelude.{◌≡◌};
-ghost use Rattle.decision.specs.Refusal.{refusalOf};
-ghost use Rattle.vhdx_close_steps.specs.Close.{afterClose, closeAnswer, afterCloseStep, closeStepAnswer};
+ghost use Rattle.decision.specs.Refusal.{refusal_of};
+ghost use Rattle.vhdx_close_steps.specs.Close.{after_close, close_answer, after_close_step, close_step_answer};
 ghost use Rattle.vhdx_map.specs.Lookup.{lookup};
-ghost use Rattle.vhdx_parent.specs.Key.{keyExtent};
+ghost use Rattle.vhdx_parent.specs.Key.{key_extent};
 ghost use Rattle.vhdx_pieces.specs.Machines.{started};
-ghost use Rattle.vhdx_pieces_calls.specs.Calls.{requestOf, numbersOf, nextRequest, nextNumbers, nextPiece};
+ghost use Rattle.vhdx_pieces_calls.specs.Calls.{request_of, numbers_of, next_request, next_numbers, next_piece};
 ghost use Rattle.vhdx_pieces_slots.specs.Loading.{loaded};
 ghost use Rattle.vhdx_steps.specs.Calls.{file};
-ghost use Rattle.vhdx.specs.Attach.{afterAttach, attachAnswer};
-ghost use Rattle.vhdx.specs.Plan.{planAnswer};
-ghost use Rattle.vhdx.specs.Step.{afterStep, stepAnswer};
-ghost use Rattle.vhdx_slots.specs.Slots.{factsFrom};
-ghost use Rattle.capi.specs.Answers.{restCleared, attachedIn, plannedIn, steppedIn, closed_in, requestIn, refusedBy, figuresIn, extentIn};
+ghost use Rattle.vhdx.specs.Attach.{after_attach, attach_answer};
+ghost use Rattle.vhdx.specs.Plan.{plan_answer};
+ghost use Rattle.vhdx.specs.Step.{after_step, step_answer};
+ghost use Rattle.vhdx_slots.specs.Slots.{facts_from};
+ghost use Rattle.capi.specs.Answers.{rest_cleared, attached_in, planned_in, stepped_in, closed_in, request_in, refused_by, figures_in, extent_in};
 
 use vhdx_map::Answer;
 use vhdx_pieces_calls::Request;
 
 // Slots 16 to 31, which have no meaning yet.
 fn clear_rest(answer: &mut [u64; 32])
-    ensures { answer.new ≡ restCleared answer.old }
+    ensures { answer.new ≡ rest_cleared answer.old }
 {
     let mut i = 16;
     while i < 32 {
@@ -35,9 +35,9 @@ pub extern "C" fn shrunvaki_vhdx_attach(
     length: u64,
     answer: &mut [u64; 32],
 ) -> u64
-    ensures value { result ≡ (attachAnswer (file buffer.old length)).refusal }
-    ensures buffer_after { buffer.new ≡ (afterAttach (file buffer.old length)).buffer }
-    ensures answer_after { answer.new ≡ attachedIn (attachAnswer (file buffer.old length)) answer.old }
+    ensures value { result ≡ (attach_answer (file buffer.old length)).refusal }
+    ensures buffer_after { buffer.new ≡ (after_attach (file buffer.old length)).buffer }
+    ensures answer_after { answer.new ≡ attached_in (attach_answer (file buffer.old length)) answer.old }
 {
     let attached = vhdx::attach(buffer, length);
     let facts = attached.facts;
@@ -52,8 +52,8 @@ pub extern "C" fn shrunvaki_vhdx_attach(
 // The refusal's number or 0. The answer: that number, length, count, zero.
 #[unsafe(no_mangle)]
 pub extern "C" fn shrunvaki_vhdx_plan(buffer: &[u8], length: u64, answer: &mut [u64; 4]) -> u64
-    ensures value { result ≡ (planAnswer (file buffer.now length)).refusal }
-    ensures answer_after { answer.new ≡ plannedIn (planAnswer (file buffer.now length)) answer.old }
+    ensures value { result ≡ (plan_answer (file buffer.now length)).refusal }
+    ensures answer_after { answer.new ≡ planned_in (plan_answer (file buffer.now length)) answer.old }
 {
     let planned = vhdx::plan(buffer, length);
     answer[0] = planned.refusal;
@@ -71,9 +71,9 @@ pub extern "C" fn shrunvaki_vhdx_step(
     k: u64,
     answer: &mut [u64; 2],
 ) -> u64
-    ensures value { result ≡ (stepAnswer k (file buffer.old length)).refusal }
-    ensures buffer_after { buffer.new ≡ (afterStep k (file buffer.old length)).buffer }
-    ensures answer_after { answer.new ≡ steppedIn (stepAnswer k (file buffer.old length)) answer.old }
+    ensures value { result ≡ (step_answer k (file buffer.old length)).refusal }
+    ensures buffer_after { buffer.new ≡ (after_step k (file buffer.old length)).buffer }
+    ensures answer_after { answer.new ≡ stepped_in (step_answer k (file buffer.old length)) answer.old }
 {
     let stepped = vhdx::step(buffer, length, k);
     answer[0] = stepped.refusal;
@@ -89,9 +89,9 @@ pub extern "C" fn shrunvaki_vhdx_close(
     identifier: &[u8; 16],
     answer: &mut [u64; 3],
 ) -> u64
-    ensures value { result ≡ (closeAnswer identifier.now (file buffer.old length)).refusal }
-    ensures buffer_after { buffer.new ≡ (afterClose identifier.now (file buffer.old length)).buffer }
-    ensures answer_after { answer.new ≡ closed_in (closeAnswer identifier.now (file buffer.old length)) answer.old }
+    ensures value { result ≡ (close_answer identifier.now (file buffer.old length)).refusal }
+    ensures buffer_after { buffer.new ≡ (after_close identifier.now (file buffer.old length)).buffer }
+    ensures answer_after { answer.new ≡ closed_in (close_answer identifier.now (file buffer.old length)) answer.old }
 {
     let closed = vhdx::close(buffer, length, identifier);
     answer[0] = closed.refusal;
@@ -109,9 +109,9 @@ pub extern "C" fn shrunvaki_vhdx_close_step(
     k: u64,
     answer: &mut [u64; 2],
 ) -> u64
-    ensures value { result ≡ (closeStepAnswer identifier.now k (file buffer.old length)).refusal }
-    ensures buffer_after { buffer.new ≡ (afterCloseStep identifier.now k (file buffer.old length)).buffer }
-    ensures answer_after { answer.new ≡ steppedIn (closeStepAnswer identifier.now k (file buffer.old length)) answer.old }
+    ensures value { result ≡ (close_step_answer identifier.now k (file buffer.old length)).refusal }
+    ensures buffer_after { buffer.new ≡ (after_close_step identifier.now k (file buffer.old length)).buffer }
+    ensures answer_after { answer.new ≡ stepped_in (close_step_answer identifier.now k (file buffer.old length)) answer.old }
 {
     let done = vhdx::close_step(buffer, length, identifier, k);
     answer[0] = done.refusal;
@@ -121,8 +121,8 @@ pub extern "C" fn shrunvaki_vhdx_close_step(
 
 // The request's kind and its two numbers, zero.
 fn put_request(request: Request, answer: &mut [u64; 4]) -> u64
-    ensures value { result ≡ refusedBy request }
-    ensures answer_after { answer.new ≡ requestIn request answer.old }
+    ensures value { result ≡ refused_by request }
+    ensures answer_after { answer.new ≡ request_in request answer.old }
 {
     answer[0] = request.kind;
     answer[1] = request.first;
@@ -139,9 +139,9 @@ pub extern "C" fn shrunvaki_vhdx_pieces_start(
     machine: &mut [u64; 64],
     answer: &mut [u64; 4],
 ) -> u64
-    ensures value { result ≡ refusedBy (requestOf (started length capacity)) }
-    ensures machine_after { machine.new ≡ numbersOf (started length capacity) }
-    ensures answer_after { answer.new ≡ requestIn (requestOf (started length capacity)) answer.old }
+    ensures value { result ≡ refused_by (request_of (started length capacity)) }
+    ensures machine_after { machine.new ≡ numbers_of (started length capacity) }
+    ensures answer_after { answer.new ≡ request_in (request_of (started length capacity)) answer.old }
 {
     put_request(vhdx_pieces_calls::start(length, capacity, machine), answer)
 }
@@ -153,10 +153,10 @@ pub extern "C" fn shrunvaki_vhdx_pieces_next(
     piece: &mut [u8; 65536],
     answer: &mut [u64; 4],
 ) -> u64
-    ensures value { result ≡ refusedBy (nextRequest (loaded machine.old) piece.old) }
-    ensures machine_after { machine.new ≡ nextNumbers (loaded machine.old) machine.old piece.old }
-    ensures piece_after { piece.new ≡ nextPiece (loaded machine.old) piece.old }
-    ensures answer_after { answer.new ≡ requestIn (nextRequest (loaded machine.old) piece.old) answer.old }
+    ensures value { result ≡ refused_by (next_request (loaded machine.old) piece.old) }
+    ensures machine_after { machine.new ≡ next_numbers (loaded machine.old) machine.old piece.old }
+    ensures piece_after { piece.new ≡ next_piece (loaded machine.old) piece.old }
+    ensures answer_after { answer.new ≡ request_in (next_request (loaded machine.old) piece.old) answer.old }
 {
     put_request(vhdx_pieces_calls::next(machine, piece), answer)
 }
@@ -171,8 +171,8 @@ pub extern "C" fn shrunvaki_vhdx_lookup(
     sector: u64,
     answer: &mut [u64; 2],
 ) -> u64
-    ensures value { result ≡ refusalOf (lookup (factsFrom facts.now) buffer.now length sector) }
-    ensures answer_after { answer.new ≡ figuresIn (lookup (factsFrom facts.now) buffer.now length sector) answer.old }
+    ensures value { result ≡ refusal_of (lookup (facts_from facts.now) buffer.now length sector) }
+    ensures answer_after { answer.new ≡ figures_in (lookup (facts_from facts.now) buffer.now length sector) answer.old }
 {
     match vhdx::lookup(vhdx_slots::read(facts), buffer, length, sector) {
         Answer::Refused(number) => {
@@ -207,7 +207,7 @@ pub extern "C" fn shrunvaki_vhdx_parent_key(
     key: &[u8],
     answer: &mut [u64; 2],
 )
-    ensures { answer.new ≡ extentIn (keyExtent (factsFrom facts.now) buffer.now length key.now) answer.old }
+    ensures { answer.new ≡ extent_in (key_extent (facts_from facts.now) buffer.now length key.now) answer.old }
 {
     let value = vhdx::parent_key_extent(vhdx_slots::read(facts), buffer, length, key);
     answer[0] = value.offset;

@@ -39,13 +39,13 @@ every-at f (suc m) i h b = go (dec_lt i m) (every-at f m i) ((and-eq-true_iff (e
 
 -- ---- a, if a test holds
 
-pub onlyIf-none : {A : Type 0} (b : Bool) (a : A) → none ≡ only_if b a → b ≡ false
-onlyIf-none true a h = let z : ◌≡◌ {A = ℕ} 0 1 = cc in absurd (omega arith)
-onlyIf-none false a h = refl
+pub only_if-none : {A : Type 0} (b : Bool) (a : A) → none ≡ only_if b a → b ≡ false
+only_if-none true a h = let z : ◌≡◌ {A = ℕ} 0 1 = cc in absurd (omega arith)
+only_if-none false a h = refl
 
-pub onlyIf-some : {A : Type 0} (b : Bool) (a : A) {x : A} → some x ≡ only_if b a → (b ≡ true) × (x ≡ a)
-onlyIf-some true a h = (refl, cc)
-onlyIf-some false a h = let z : ◌≡◌ {A = ℕ} 0 1 = cc in absurd (omega arith)
+pub only_if-some : {A : Type 0} (b : Bool) (a : A) {x : A} → some x ≡ only_if b a → (b ≡ true) × (x ≡ a)
+only_if-some true a h = (refl, cc)
+only_if-some false a h = let z : ◌≡◌ {A = ℕ} 0 1 = cc in absurd (omega arith)
 
 -- ---- the first of which f holds
 
@@ -87,6 +87,6 @@ pub check-answered : {A : Type 0} (t : Bool) (c : ℕ) (o : Outcome A) {a : A} �
 check-answered true c o e = (refl, e)
 check-answered false c o e = let z : ◌≡◌ {A = ℕ} 0 1 = cc in absurd (omega arith)
 
-pub andThen-answered : {A B : Type 0} (o : Outcome A) (f : A → Outcome B) {b : B} → and_then o f ≡ answered b → (a : A) × (o ≡ answered a) × (f a ≡ answered b)
-andThen-answered (refused c) f e = let z : ◌≡◌ {A = ℕ} 0 1 = cc in absurd (omega arith)
-andThen-answered (answered a) f e = (a, refl, e)
+pub and_then-answered : {A B : Type 0} (o : Outcome A) (f : A → Outcome B) {b : B} → and_then o f ≡ answered b → (a : A) × (o ≡ answered a) × (f a ≡ answered b)
+and_then-answered (refused c) f e = let z : ◌≡◌ {A = ℕ} 0 1 = cc in absurd (omega arith)
+and_then-answered (answered a) f e = (a, refl, e)

@@ -18,6 +18,6 @@ and_then (refused c) f = refused c
 and_then (answered a) f = f a
 
 -- the refusal's number, or 0
-abbrev pub refusalOf : {A : Type 0} → Outcome A → ℕ
-refusalOf (refused c) = c
-refusalOf (answered a) = 0
+abbrev pub refusal_of : {A : Type 0} → Outcome A → ℕ
+refusal_of (refused c) = c
+refusal_of (answered a) = 0

@@ -2,28 +2,28 @@
 -- "multiple of 1 MiB").
 -- Sums are of whole numbers and never wrap.
 -- Assumes nothing.
-use Rattle.std.specs.Prelude.{Bool, not, ◌&&◌, List, ℕ, ◌+◌, ◌%◌, eqb, leb, ltb, take, drop}
+use Rattle.std.specs.Prelude.{Bool, not, ◌&&◌, List, ℕ, ◌+◌, ◌%◌, nat_eq, nat_le, nat_lt, take, drop}
 use Rattle.extent.specs.declared.Extent.{Extent}
 
 -- "MiB is 1,048,576 bytes."
-abbrev pub MiB : ℕ
-MiB = 1048576
+abbrev pub mib : ℕ
+mib = 1048576
 
 -- a multiple of 1 MiB
-abbrev pub wholeMiB : ℕ → Bool
-wholeMiB n = eqb (n % MiB) 0
+abbrev pub whole_mib : ℕ → Bool
+whole_mib n = nat_eq (n % mib) 0
 
 -- n bytes at an offset lie inside the first size bytes of a file, also where n is 0
 abbrev pub inside : ℕ → ℕ → ℕ → Bool
-inside offset n size = leb (offset + n) size
+inside offset n size = nat_le (offset + n) size
 
 -- m bytes at offset a and n bytes at offset b share at least one byte; an empty range shares none, wherever it lies
 abbrev pub shares : ℕ → ℕ → ℕ → ℕ → Bool
-shares a m b n = (ltb 0 m && ltb 0 n) && (ltb a (b + n) && ltb b (a + m))
+shares a m b n = (nat_lt 0 m && nat_lt 0 n) && (nat_lt a (b + n) && nat_lt b (a + m))
 
 -- "inside": an extent lies in the first size bytes of a file, also where it is empty
-abbrev pub inBounds : Extent → ℕ → Bool
-inBounds e size = inside e.offset e.length size
+abbrev pub in_bounds : Extent → ℕ → Bool
+in_bounds e size = inside e.offset e.length size
 
 -- "sharing a byte": two extents have at least one byte in common; an empty one has none, wherever it lies
 abbrev pub overlap : Extent → Extent → Bool

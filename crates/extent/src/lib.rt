@@ -1,6 +1,6 @@
 // Ranges of bytes in a file, given by offset and length. No sum is formed that could wrap.
 ghost use Rattle.std.specs.Prelude.{◌≡◌, ◌+◌, ◌≤◌, ◌<◌, ◌^◌, length as length_of};
-ghost use Rattle.extent.specs.Extent.{wholeMiB, inside, shares, inBounds, overlap as overlapping, apart, shifted as shifted_by, nowhere as nowhereAt, part as part_of, onward};
+ghost use Rattle.extent.specs.Extent.{whole_mib, inside, shares, in_bounds, overlap as overlapping, apart, shifted as shifted_by, nowhere as nowhere_at, part as part_of, onward};
 
 pub const MIB: u64 = 1048576;
 
@@ -13,7 +13,7 @@ pub struct Extent {
 
 // The extent of what is not there.
 pub fn nowhere() -> Extent
-    ensures { result ≡ nowhereAt }
+    ensures { result ≡ nowhere_at }
 {
     Extent {
         offset: 0,
@@ -22,7 +22,7 @@ pub fn nowhere() -> Extent
 }
 
 pub fn is_whole_mib(n: u64) -> bool
-    ensures { result ≡ wholeMiB n }
+    ensures { result ≡ whole_mib n }
 {
     n % MIB == 0
 }
@@ -61,7 +61,7 @@ pub fn share_a_byte(a: u64, m: u64, b: u64, n: u64) -> bool
 
 // All of the extent lies in the first size bytes.
 pub fn is_in_bounds(e: Extent, size: u64) -> bool
-    ensures { result ≡ inBounds e size }
+    ensures { result ≡ in_bounds e size }
 {
     is_inside(e.offset, e.length, size)
 }

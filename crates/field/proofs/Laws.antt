@@ -12,7 +12,7 @@ use lib.ListN.{length, take, drop, get_or, length-drop, drop_of_length-le}
 use lib.Seq.{take-add, drop-drop, length-take-le, drop-cons}
 use borrow.Author.Tests.{eq-eqb, ne_eqb, eqb-true, eqb-false}
 use Rattle.field.specs.declared.Guid.{Guid}
-use Rattle.field.specs.Fields.{le, field, guidAt, number, starts}
+use Rattle.field.specs.Fields.{le, field, guid_at, number, starts}
 
 le-append : (a b : List ℕ) → le (a ++ b) ≡ le a + 256 ^ length a * le b
 unfolding le
@@ -69,16 +69,16 @@ module _ (s k : List ℕ) (i j : ℕ) (hi : i < length s) (hj : j < length k) wh
 -- ---- an identifier: 16 bytes as one number, and compared half by half
 
 -- the law over the width at 8 and 8
-pub number_at : (s : List ℕ) (at : ℕ) → at + 8 ≤ length s → number (guidAt s at) ≡ field s at 16
+pub number_at : (s : List ℕ) (at : ℕ) → at + 8 ≤ length s → number (guid_at s at) ≡ field s at 16
 number_at s at h = sym (field-add s at 8 8 h)
 
 module _ (s : List ℕ) (at : ℕ) (g : Guid) {a : ℕ} (h : at + 8 ≤ length s) (p : a ≡ field s at 8) where
   pub low_same : {b : ℕ} → b ≡ field s (at + 8) 8 → a ≡ g.low → eqb b g.high ≡ eqb (field s at 16) (number g)
   low_same {b} q e =
-      let j : number (guidAt s at) ≡ field s at 16 = number_at s at h in
+      let j : number (guid_at s at) ≡ field s at 16 = number_at s at h in
       eqb-iff b g.high (field s at 16) (number g) (λ x. omega arith) (λ x. omega arith)
 
   pub low-other : a < 2 ^ 64 → g.low < 2 ^ 64 → (a ≡ g.low → ⊥) → eqb (field s at 16) (number g) ≡ false
   low-other ha hl n =
-      let j : number (guidAt s at) ≡ field s at 16 = number_at s at h in
+      let j : number (guid_at s at) ≡ field s at 16 = number_at s at h in
       ne_eqb (field s at 16) (number g) (λ x. omega arith)

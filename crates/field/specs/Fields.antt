@@ -1,7 +1,7 @@
 -- What stands in a run of bytes: a number, an identifier of 16 bytes, and whether the run starts with a key.
 -- Document 01: "All integers are little-endian and unsigned."
 -- Assumes nothing.
-use Rattle.std.specs.Prelude.{Bool, true, false, ◌&&◌, List, [], ◌∷◌, ℕ, zero, suc, ◌+◌, ◌*◌, ◌/◌, ◌%◌, ◌^◌, ◌<◌, eqb, take, drop}
+use Rattle.std.specs.Prelude.{Bool, true, false, ◌&&◌, List, [], ◌∷◌, ℕ, zero, suc, ◌+◌, ◌*◌, ◌/◌, ◌%◌, ◌^◌, ◌<◌, nat_eq, take, drop}
 use Rattle.field.specs.declared.Guid.{Guid}
 
 -- the number that a list of bytes stands for, lowest byte first
@@ -24,8 +24,8 @@ unfoldable pub field : List ℕ → ℕ → ℕ → ℕ
 field s at n = le (take n (drop at s))
 
 -- the identifier of 16 bytes at an offset, as its two halves
-abbrev pub guidAt : List ℕ → ℕ → Guid
-guidAt s at = record { low = field s at 8; high = field s (at + 8) 8 }
+abbrev pub guid_at : List ℕ → ℕ → Guid
+guid_at s at = record { low = field s at 8; high = field s (at + 8) 8 }
 
 -- the number of 16 bytes that an identifier is
 abbrev pub number : Guid → ℕ
@@ -35,4 +35,4 @@ number g = g.low + 2 ^ 64 * g.high
 unfoldable pub starts : List ℕ → List ℕ → Bool
 starts s [] = true
 starts [] (k ∷ ks) = false
-starts (b ∷ s) (k ∷ ks) = eqb b k && starts s ks
+starts (b ∷ s) (k ∷ ks) = nat_eq b k && starts s ks

@@ -3,8 +3,8 @@
 // Its module: `number`, a number as bytes.
 pub mod number;
 
-ghost use Rattle.std.specs.Prelude.{◌≡◌, ◌+◌, ◌≤◌, eqb, length, drop};
-ghost use Rattle.field.specs.Fields.{field, guidAt, number, starts};
+ghost use Rattle.std.specs.Prelude.{◌≡◌, ◌+◌, ◌≤◌, nat_eq, length, drop};
+ghost use Rattle.field.specs.Fields.{field, guid_at, number, starts};
 
 // An identifier of 16 bytes, as it is stored: its first and its last eight bytes, each a little-endian number.
 #[derive(Drop)]
@@ -43,7 +43,7 @@ pub fn u64_at(s: &[u8], at: usize) -> u64
 
 pub fn guid_at(s: &[u8], at: usize) -> Guid
     requires { at + 16 ≤ length s.now }
-    ensures { result ≡ guidAt s.now at }
+    ensures { result ≡ guid_at s.now at }
 {
     let low = u64_at(s, at);
     let high = u64_at(s, at + 8);
@@ -53,7 +53,7 @@ pub fn guid_at(s: &[u8], at: usize) -> Guid
 // The 16 bytes at an offset are the identifier.
 pub fn guid_is(s: &[u8], at: usize, guid: Guid) -> bool
     requires { at + 16 ≤ length s.now }
-    ensures { result ≡ eqb (field s.now at 16) (number guid) }
+    ensures { result ≡ nat_eq (field s.now at 16) (number guid) }
 {
     if u64_at(s, at) == guid.low {
         u64_at(s, at + 8) == guid.high

@@ -1,8 +1,8 @@
 // Tables of identifiers, each as its 16 stored bytes.
-ghost use Rattle.std.specs.Prelude.{◌≡◌, ◌<◌, eqb, length};
+ghost use Rattle.std.specs.Prelude.{◌≡◌, ◌<◌, nat_eq, length};
 ghost use Rattle.decision.specs.Bounded.{found};
 ghost use Rattle.field.specs.Fields.{number};
-ghost use Rattle.guid.specs.Stored.{identifierIn, row_of};
+ghost use Rattle.guid.specs.Stored.{identifier_in, row_of};
 
 use decision::Index;
 use field::Guid;
@@ -10,7 +10,7 @@ use field::Guid;
 // Row k of the table is the identifier.
 pub fn is_row(table: &[[u8; 16]], k: usize, id: Guid) -> bool
     requires { k < length table.now }
-    ensures { result ≡ eqb (identifierIn table.now k) (number id) }
+    ensures { result ≡ nat_eq (identifier_in table.now k) (number id) }
 {
     field::guid_is(&table[k], 0, id)
 }

@@ -4,20 +4,20 @@ use Rattle.std.specs.Prelude.{Bool, true, false, ℕ, ◌+◌, ◌≤◌, ◌<�
 use Rattle.vhdx_pieces.specs.declared.Machine.{Machine}
 use Rattle.vhdx_pieces.specs.declared.Turn.{Turn}
 use Rattle.vhdx_pieces.specs.declared.Turn.TheVariants.{Read, Grow, Write, Done, Refused}
-use Rattle.vhdx_pieces.specs.Machines.{Kept, leftIn, left_of}
+use Rattle.vhdx_pieces.specs.Machines.{Kept, left_in, left_of}
 use Rattle.list_writes.specs.declared.window.Place.{Place}
 use Rattle.list_writes.specs.declared.window.Place.TheVariants.{At, Missing}
 
-abbrev pub asksOf : Turn → Bool
-asksOf (Read m) = true
-asksOf (Grow m) = true
-asksOf (Write m) = true
-asksOf (Done w) = false
-asksOf (Refused c) = false
+abbrev pub asks_of : Turn → Bool
+asks_of (Read m) = true
+asks_of (Grow m) = true
+asks_of (Write m) = true
+asks_of (Done w) = false
+asks_of (Refused c) = false
 
 -- it may be handed in again, and less is left than of the machine m
 abbrev pub Ahead : Machine → Turn → Type 0
-Ahead m t = Kept t × (left_of t < leftIn m)
+Ahead m t = Kept t × (left_of t < left_in m)
 
 -- what comes of a turn
 abbrev pub Toward : Turn → Turn → Type 0

@@ -7,7 +7,7 @@ mod window;
 
 ghost use Rattle.std.specs.Prelude.{◌≡◌, ◌≤◌};
 ghost use Rattle.vhdx_pieces.specs.Machines.{Sane, Kept};
-ghost use Rattle.list_writes.specs.Driver.{asksOf, Ahead, Toward};
+ghost use Rattle.list_writes.specs.Driver.{asks_of, Ahead, Toward};
 
 use vhdx_pieces::{Finish, Machine, Turn};
 use window::{Place, Window};
@@ -69,7 +69,7 @@ fn run(fd: i32, length: u64) {
 }
 
 fn asks(state: State) -> bool
-    ensures { result ≡ asksOf state.turn }
+    ensures { result ≡ asks_of state.turn }
 {
     let turn = state.turn;
     match turn {

@@ -2,13 +2,13 @@
 -- image is the buffer's first `size` bytes.
 -- Assumes nothing.
 use Rattle.std.specs.Prelude.{List, ℕ, length, take}
-use Rattle.vhdx_facts.specs.Ranges.{noFacts}
+use Rattle.vhdx_facts.specs.Ranges.{no_facts}
 use Rattle.vhdx_tables.specs.declared.Reading.{Reading}
 use Rattle.vhdx_tables.specs.Tables.{tables, reading}
 use Rattle.vhdx_log.specs.Work.{Plan, refused, apply}
 use Rattle.vhdx_steps.specs.Steps.{File, runs, steps}
 use Rattle.vhdx_steps.specs.Calls.{plan_of}
-use Rattle.vhdx_replay.specs.Planned.{logExtent}
+use Rattle.vhdx_replay.specs.Planned.{log_extent}
 use Rattle.vhdx.specs.declared.Attached.{Attached}
 
 -- "the image is that many first bytes"
@@ -16,13 +16,13 @@ abbrev pub image_of : File → List ℕ
 image_of f = take f.size f.buffer
 
 -- "It applies the log": all steps of the plan, none where 1 to 8 refuse. "Refusals 1 to 8 .. change no byte."
-unfoldable pub afterAttach : File → File
-afterAttach f = runs (steps (plan_of f)) f
+unfoldable pub after_attach : File → File
+after_attach f = runs (steps (plan_of f)) f
 
 -- "then reads the tables": 9 to 15 or the facts, of an image whose log is applied. The log that a region must not touch is where the
 -- image's current header says
 unfoldable pub read : List ℕ → Reading
-read image = reading (tables image (logExtent image (length image)))
+read image = reading (tables image (log_extent image (length image)))
 
 -- with the length and the count
 abbrev pub told : Reading → ℕ → ℕ → Attached
@@ -30,9 +30,9 @@ told r n count = record { refusal = r.refusal; length = n; count = count; facts 
 
 -- f is the file that attach leaves. At 1 to 8 "Attach then answers the given length and count 0"; "Refusals 9 to 15 leave the image
 -- with its log applied, and answer its length and the count."; "The count equals the definition's steps after step 0."
-abbrev pub answerBy : Plan → File → Attached
-answerBy (refused c) f = record { refusal = c; length = f.size; count = 0; facts = noFacts }
-answerBy (apply m ss) f = told (read (image_of f)) f.size (length ss)
+abbrev pub answer_by : Plan → File → Attached
+answer_by (refused c) f = record { refusal = c; length = f.size; count = 0; facts = no_facts }
+answer_by (apply m ss) f = told (read (image_of f)) f.size (length ss)
 
-unfoldable pub attachAnswer : File → Attached
-attachAnswer f = answerBy (plan_of f) (afterAttach f)
+unfoldable pub attach_answer : File → Attached
+attach_answer f = answer_by (plan_of f) (after_attach f)

@@ -15,20 +15,20 @@
 use Rattle.std.specs.Prelude.{List, ◌↔◌, ◌≡◌, ℕ, ◌≤◌, ◌<◌, length, take, get_or}
 use Rattle.std.proofs.Math.Option.{none}
 use Rattle.extent.specs.Extent.{part}
-use Rattle.vhdx_header.specs.Current.{firstMiB}
+use Rattle.vhdx_header.specs.Current.{first_mib}
 use Rattle.vhdx_walk.specs.Entries.{Sector}
-use Rattle.vhdx_log.specs.Work.{apply, sectorsPlanned}
+use Rattle.vhdx_log.specs.Work.{apply, sectors_planned}
 use Rattle.vhdx_steps.specs.Steps.{File, Named}
-use Rattle.vhdx_steps.specs.Calls.{plan_of, finalLengthOf, Call, Calls}
+use Rattle.vhdx_steps.specs.Calls.{plan_of, final_length_of, Call, Calls}
 use Rattle.vhdx_steps.specs.Failures.{History}
-use Rattle.vhdx_replay.specs.Planned.{logExtent}
-use Rattle.vhdx.specs.Attach.{afterAttach, attachAnswer}
-use Rattle.vhdx.specs.Step.{afterStep}
-use Rattle.vhdx.specs.Refusals.{firstRow}
+use Rattle.vhdx_replay.specs.Planned.{log_extent}
+use Rattle.vhdx.specs.Attach.{after_attach, attach_answer}
+use Rattle.vhdx.specs.Step.{after_step}
+use Rattle.vhdx.specs.Refusals.{first_row}
 
 -- "A log can be applied where, by the table above, none of 1 to 8 applies to an attach of the file as it came"
 abbrev pub Applicable : File → Type 0
-Applicable o = firstRow o ≡ none
+Applicable o = first_row o ≡ none
 
 -- just then the plan is work to do. Proved in proofs/CrashSafety.antt
 abbrev pub PlannedExactlyThen : Type 0
@@ -38,21 +38,21 @@ PlannedExactlyThen = (f : File) → ((m : ℕ) × (ss : List Sector) × (plan_of
 pub record Restarts (o f : File) : Type 0 where
   -- "After every such list, one more attach, undisturbed, gives exactly what by document 01 an attach of the original in that room
   -- gives: the same length,"
-  pub same_length : (attachAnswer f).length ≡ (attachAnswer o).length
+  pub same_length : (attach_answer f).length ≡ (attach_answer o).length
   -- "every byte of the file,"
-  pub same_bytes : take (attachAnswer f).length (afterAttach f).buffer ≡ take (attachAnswer o).length (afterAttach o).buffer
+  pub same_bytes : take (attach_answer f).length (after_attach f).buffer ≡ take (attach_answer o).length (after_attach o).buffer
   -- "the count,"
-  pub same_count : (attachAnswer f).count ≡ (attachAnswer o).count
+  pub same_count : (attach_answer f).count ≡ (attach_answer o).count
   -- "and the refusal or the facts."
-  pub same-refusal : (attachAnswer f).refusal ≡ (attachAnswer o).refusal
-  pub same-facts : (attachAnswer f).facts ≡ (attachAnswer o).facts
+  pub same_refusal : (attach_answer f).refusal ≡ (attach_answer o).refusal
+  pub same_facts : (attach_answer f).facts ≡ (attach_answer o).facts
   -- "At every point the file differs from the original only in sectors that the applied sequence names and in bytes past the old
   -- end.": of 01, "the applied sequence is that file's active one", the original's
-  pub no-shorter : o.size ≤ f.size
-  pub same-elsewhere : (i : ℕ) → i < o.size → ¬ Named (sectorsPlanned (plan_of o)) i → get_or f.buffer i 0 ≡ get_or o.buffer i 0
+  pub no_shorter : o.size ≤ f.size
+  pub same_elsewhere : (i : ℕ) → i < o.size → ¬ Named (sectors_planned (plan_of o)) i → get_or f.buffer i 0 ≡ get_or o.buffer i 0
   -- "The first MiB and the log are never touched."
-  pub first-kept : firstMiB f.buffer ≡ firstMiB o.buffer
-  pub log-kept : part f.buffer (logExtent o.buffer o.size) ≡ part o.buffer (logExtent o.buffer o.size)
+  pub first_kept : first_mib f.buffer ≡ first_mib o.buffer
+  pub log_kept : part f.buffer (log_extent o.buffer o.size) ≡ part o.buffer (log_extent o.buffer o.size)
 
 -- "Take any file whose log can be applied in the room we lend, and any list of attaches and single steps on it, in whatever order,
 -- refused ones included, each run to its end or cut. The first gets the file as it came. Each later one gets the file and the length
@@ -67,10 +67,10 @@ PowerSafe = (o d f : File) → Applicable o → History o d f → Restarts o f
 
 -- a call that is run to its end, as the contracts of `attach` and `step` fix it, is one of those that a list may have
 abbrev pub RunToTheEnd : Type 0
-RunToTheEnd = (f : File) → Call f (afterAttach f) × ((k : ℕ) → Call f (afterStep k f))
+RunToTheEnd = (f : File) → Call f (after_attach f) × ((k : ℕ) → Call f (after_step k f))
 
 -- "No call run to its end changes bytes past the final length."
 abbrev pub NothingBeyond : Type 0
 NothingBeyond =
-    (f : File) (i : ℕ) → finalLengthOf f ≤ i
-    → (get_or (afterAttach f).buffer i 0 ≡ get_or f.buffer i 0) × ((k : ℕ) → get_or (afterStep k f).buffer i 0 ≡ get_or f.buffer i 0)
+    (f : File) (i : ℕ) → final_length_of f ≤ i
+    → (get_or (after_attach f).buffer i 0 ≡ get_or f.buffer i 0) × ((k : ℕ) → get_or (after_step k f).buffer i 0 ≡ get_or f.buffer i 0)

@@ -1,45 +1,45 @@
 -- The plan as a call: what attach would do with a file's log, and nothing done (document 01, "The log", "Work", and "When the gate says
 -- no", 1 to 8).
 -- Assumes nothing.
-use Rattle.std.specs.Prelude.{cond, List, ◌⊎◌, ◌≡◌, ℕ, leb, length}
+use Rattle.std.specs.Prelude.{cond, List, ◌⊎◌, ◌≡◌, ℕ, nat_le, length}
 use Rattle.vhdx_log.specs.Work.{Plan, refused, apply}
 use Rattle.vhdx_steps.specs.Steps.{File}
 use Rattle.vhdx_steps.specs.Calls.{plan_of}
 use Rattle.vhdx_close_steps.specs.declared.Closed.{Closed}
-use Rattle.vhdx_close_steps.specs.Close.{closeAnswer}
+use Rattle.vhdx_close_steps.specs.Close.{close_answer}
 use Rattle.vhdx.specs.declared.Attached.{Attached}
 use Rattle.vhdx.specs.declared.Planned.{Planned}
-use Rattle.vhdx.specs.Attach.{attachAnswer}
+use Rattle.vhdx.specs.Attach.{attach_answer}
 
 -- n is the given length. At 1 to 8 "the given length and count 0"; else the length that step 0 grows the image to, and "the
 -- definition's steps after step 0"
-abbrev pub plannedBy : Plan → ℕ → Planned
-plannedBy (refused c) n = record { refusal = c; length = n; count = 0 }
-plannedBy (apply m ss) n = record { refusal = 0; length = m; count = length ss }
+abbrev pub planned_by : Plan → ℕ → Planned
+planned_by (refused c) n = record { refusal = c; length = n; count = 0 }
+planned_by (apply m ss) n = record { refusal = 0; length = m; count = length ss }
 
 -- of the plan that attach follows
-unfoldable pub planAnswer : File → Planned
-planAnswer f = plannedBy (plan_of f) f.size
+unfoldable pub plan_answer : File → Planned
+plan_answer f = planned_by (plan_of f) f.size
 
 -- what of attach's refusal a plan can say: 1 to 8, which come before any step; 9 to 15 judge the tables as the log leaves them. 0 is no
 -- refusal
 abbrev pub foretold : ℕ → ℕ
-foretold c = cond (leb c 8) c 0
+foretold c = cond (nat_le c 8) c 0
 
 -- attach answers what was planned: the length, the count, and a number of 1 to 8 exactly where the plan has it
 pub record AsPlanned (p : Planned) (a : Attached) : Type 0 where
   pub same_length : a.length ≡ p.length
   pub same_count : a.count ≡ p.count
-  pub same-refusal : foretold a.refusal ≡ p.refusal
+  pub same_refusal : foretold a.refusal ≡ p.refusal
 
 -- of every file. Proved in proofs/Foretelling.antt
 abbrev pub Foretells : Type 0
-Foretells = (f : File) → AsPlanned (planAnswer f) (attachAnswer f)
+Foretells = (f : File) → AsPlanned (plan_answer f) (attach_answer f)
 
 -- Closing (change request Q-6) "refuses as 1 to 8 .. and answers as attach does in length and count": it answers what was planned, unless
 -- 23 refuses it. Proved in proofs/CloseForetelling.antt
-abbrev pub plannedOf : Closed → Planned
-plannedOf c = record { refusal = c.refusal; length = c.length; count = c.count }
+abbrev pub planned_of : Closed → Planned
+planned_of c = record { refusal = c.refusal; length = c.length; count = c.count }
 
 abbrev pub ForetellsClose : Type 0
-ForetellsClose = (identifier : List ℕ) (f : File) → ((closeAnswer identifier f).refusal ≡ 23) ⊎ (plannedOf (closeAnswer identifier f) ≡ planAnswer f)
+ForetellsClose = (identifier : List ℕ) (f : File) → ((close_answer identifier f).refusal ≡ 23) ⊎ (planned_of (close_answer identifier f) ≡ plan_answer f)

@@ -2,14 +2,14 @@
 -- it.").
 -- Assumes nothing.
 use Rattle.std.specs.Prelude.{ℕ}
-use Rattle.decision.specs.Refusal.{refusalOf}
+use Rattle.decision.specs.Refusal.{refusal_of}
 use Rattle.vhdx_steps.specs.Steps.{File, runs, chosen, single}
 use Rattle.vhdx_steps.specs.Calls.{plan_of}
 use Rattle.vhdx_steps.specs.declared.Stepped.{Stepped}
 
 -- none where 1 to 8, 21 or 22 refuse
-unfoldable pub afterStep : ℕ → File → File
-afterStep k f = runs (single (plan_of f) k f.size) f
+unfoldable pub after_step : ℕ → File → File
+after_step k f = runs (single (plan_of f) k f.size) f
 
-unfoldable pub stepAnswer : ℕ → File → Stepped
-stepAnswer k f = record { refusal = refusalOf (chosen (plan_of f) k f.size); length = (afterStep k f).size }
+unfoldable pub step_answer : ℕ → File → Stepped
+step_answer k f = record { refusal = refusal_of (chosen (plan_of f) k f.size); length = (after_step k f).size }

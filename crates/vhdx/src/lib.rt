@@ -2,15 +2,15 @@
 // that, lookup, parent key. None has a `requires`: a caller may hand in any buffer, length, step, identifier, sector, facts and key.
 // Attach, close and their steps write, and write through `vhdx_replay::store` alone.
 ghost use Rattle.std.specs.Prelude.{◌≡◌, ◌≤◌, length as length_of, take};
-ghost use Rattle.extent.specs.Extent.{MiB, part as part_of, onward};
-ghost use Rattle.vhdx_close_steps.specs.Close.{afterClose, closeAnswer, afterCloseStep, closeStepAnswer};
-ghost use Rattle.vhdx_map.specs.Lookup.{lookup as lookupOf, outcome};
-ghost use Rattle.vhdx_parent.specs.Key.{keyExtent};
+ghost use Rattle.extent.specs.Extent.{mib, part as part_of, onward};
+ghost use Rattle.vhdx_close_steps.specs.Close.{after_close, close_answer, after_close_step, close_step_answer};
+ghost use Rattle.vhdx_map.specs.Lookup.{lookup as lookup_of, outcome};
+ghost use Rattle.vhdx_parent.specs.Key.{key_extent};
 ghost use Rattle.vhdx_steps.specs.Calls.{file};
 ghost use Rattle.vhdx_tables.specs.Tables.{tables, reading};
-ghost use Rattle.vhdx.specs.Attach.{afterAttach, told, attachAnswer};
-ghost use Rattle.vhdx.specs.Plan.{planAnswer};
-ghost use Rattle.vhdx.specs.Step.{afterStep, stepAnswer};
+ghost use Rattle.vhdx.specs.Attach.{after_attach, told, attach_answer};
+ghost use Rattle.vhdx.specs.Plan.{plan_answer};
+ghost use Rattle.vhdx.specs.Step.{after_step, step_answer};
 
 use extent::Extent;
 use vhdx_close_steps::Closed;
@@ -43,8 +43,8 @@ pub struct Planned {
 // Applies the log of the image that is the buffer's first length bytes, and reads its tables. What 1 to 8 refuse is decided
 // before anything is written.
 pub fn attach(buffer: &mut [u8], length: u64) -> Attached
-    ensures value { result ≡ attachAnswer (file buffer.old length) }
-    ensures buffer_after { buffer.new ≡ (afterAttach (file buffer.old length)).buffer }
+    ensures value { result ≡ attach_answer (file buffer.old length) }
+    ensures buffer_after { buffer.new ≡ (after_attach (file buffer.old length)).buffer }
 {
     match vhdx_log::plan(buffer, length) {
         vhdx_log::Answer::Refused(number) => Attached {
@@ -63,7 +63,7 @@ pub fn attach(buffer: &mut [u8], length: u64) -> Attached
 
 // The tables of an image whose log, which is here, is applied.
 fn read(buffer: &[u8], log: Extent, work: Work) -> Attached
-    requires { (MiB ≤ work.length) × (work.length ≤ length_of buffer.now) }
+    requires { (mib ≤ work.length) × (work.length ≤ length_of buffer.now) }
     ensures { result ≡ told (reading (tables (take work.length buffer.now) log)) work.length work.count }
 {
     let end = work.length as usize;
@@ -80,7 +80,7 @@ fn read(buffer: &[u8], log: Extent, work: Work) -> Attached
 // What attach would do, without doing it: reads the headers and the log, never writes, and takes time linear in the log.
 // Refusals 9 to 15 are not foretold: they judge the tables as the log leaves them.
 pub fn plan(buffer: &[u8], length: u64) -> Planned
-    ensures { result ≡ planAnswer (file buffer.now length) }
+    ensures { result ≡ plan_answer (file buffer.now length) }
 {
     match vhdx_log::plan(buffer, length) {
         vhdx_log::Answer::Refused(refusal) => Planned {
@@ -99,8 +99,8 @@ pub fn plan(buffer: &[u8], length: u64) -> Planned
 // Does step k of the replay alone: 0 grows the image, k writes sector k. The time it takes is that of the plan and of one
 // sector.
 pub fn step(buffer: &mut [u8], length: u64, k: u64) -> Stepped
-    ensures value { result ≡ stepAnswer k (file buffer.old length) }
-    ensures buffer_after { buffer.new ≡ (afterStep k (file buffer.old length)).buffer }
+    ensures value { result ≡ step_answer k (file buffer.old length) }
+    ensures buffer_after { buffer.new ≡ (after_step k (file buffer.old length)).buffer }
 {
     match vhdx_log::plan(buffer, length) {
         vhdx_log::Answer::Refused(number) => Stepped {
@@ -127,23 +127,23 @@ pub fn step(buffer: &mut [u8], length: u64, k: u64) -> Stepped
 // Closes the log for good: applies it as attach does, then rewrites the header that is not current, with no log and with this
 // file-write identifier. No table is read.
 pub fn close(buffer: &mut [u8], length: u64, identifier: &[u8; 16]) -> Closed
-    ensures value { result ≡ closeAnswer identifier.now (file buffer.old length) }
-    ensures buffer_after { buffer.new ≡ (afterClose identifier.now (file buffer.old length)).buffer }
+    ensures value { result ≡ close_answer identifier.now (file buffer.old length) }
+    ensures buffer_after { buffer.new ≡ (after_close identifier.now (file buffer.old length)).buffer }
 {
     vhdx_close::close(buffer, length, identifier)
 }
 
 // Does step k of closing alone: those of the replay, then the header's.
 pub fn close_step(buffer: &mut [u8], length: u64, identifier: &[u8; 16], k: u64) -> Stepped
-    ensures value { result ≡ closeStepAnswer identifier.now k (file buffer.old length) }
-    ensures buffer_after { buffer.new ≡ (afterCloseStep identifier.now k (file buffer.old length)).buffer }
+    ensures value { result ≡ close_step_answer identifier.now k (file buffer.old length) }
+    ensures buffer_after { buffer.new ≡ (after_close_step identifier.now k (file buffer.old length)).buffer }
 {
     vhdx_close::close_step(buffer, length, identifier, k)
 }
 
 // Where the bytes of a sector are, by the facts that attach answered.
 pub fn lookup(facts: Facts, buffer: &[u8], length: u64, sector: u64) -> vhdx_map::Answer
-    ensures { outcome result ≡ lookupOf facts buffer.now length sector }
+    ensures { outcome result ≡ lookup_of facts buffer.now length sector }
 {
     vhdx_map::lookup(facts, buffer, length, sector)
 }
@@ -151,16 +151,16 @@ pub fn lookup(facts: Facts, buffer: &[u8], length: u64, sector: u64) -> vhdx_map
 // The value of a key of the parent locator, as the very part of the buffer; the empty beginning of the buffer where there is
 // none.
 pub fn parent_key<'a>(facts: Facts, buffer: &'a [u8], length: u64, key: &[u8]) -> &'a [u8]
-    ensures result_value { result.now ≡ part_of buffer.now (keyExtent facts buffer.now length key.now) }
-    ensures result_value_2 { length_of result.now ≡ (keyExtent facts buffer.now length key.now).length }
-    ensures ref_ptr_value { result.ref_ptr ≡ onward buffer.entry.ref_ptr (keyExtent facts buffer.now length key.now).offset }
+    ensures result_value { result.now ≡ part_of buffer.now (key_extent facts buffer.now length key.now) }
+    ensures result_value_2 { length_of result.now ≡ (key_extent facts buffer.now length key.now).length }
+    ensures ref_ptr_value { result.ref_ptr ≡ onward buffer.entry.ref_ptr (key_extent facts buffer.now length key.now).offset }
 {
     vhdx_parent::value(facts, buffer, length, key)
 }
 
 // The same answer as offset and length, for callers that no slice can be handed to.
 pub fn parent_key_extent(facts: Facts, buffer: &[u8], length: u64, key: &[u8]) -> Extent
-    ensures { result ≡ keyExtent facts buffer.now length key.now }
+    ensures { result ≡ key_extent facts buffer.now length key.now }
 {
     vhdx_parent::value_extent(facts, buffer, length, key)
 }

@@ -9,8 +9,8 @@ use native.Mathlib.Numerals.{add-one}
 use native.Mathlib.Omega.{arith}
 use lib.ListN.{length, take, get_elem?, length-append}
 use borrow.Author.Tests.{le-leb}
-use Rattle.decision.specs.Refusal.{Outcome, refused as declined, answered, check, refusalOf}
-use Rattle.vhdx_header.specs.Current.{header_at, firstMiB, otherSlot}
+use Rattle.decision.specs.Refusal.{Outcome, refused as declined, answered, check, refusal_of}
+use Rattle.vhdx_header.specs.Current.{header_at, first_mib, other_slot}
 use Rattle.vhdx_header.proofs.Laws.{accepted}
 use Rattle.vhdx_header.proofs.Standing.{standing}
 use Rattle.vhdx_walk.specs.Entries.{Sector}
@@ -22,9 +22,9 @@ use Rattle.vhdx_steps.specs.Calls.{file}
 use Rattle.vhdx_close_steps.specs.declared.Closed.{Closed}
 use Rattle.vhdx_steps.specs.declared.Stepped.{Stepped}
 use Rattle.vhdx_close.specs.declared.Job.{Job}
-use Rattle.vhdx_rewrite.specs.Rewrite.{closedHeader}
-use Rattle.vhdx_close_steps.specs.Close.{closePlan, afterClose, afterCloseStep, closedBy, closeAnswer, closeStepAnswer}
-use Rattle.vhdx_rewrite.specs.Writing.{headerWritten}
+use Rattle.vhdx_rewrite.specs.Rewrite.{closed_header}
+use Rattle.vhdx_close_steps.specs.Close.{close_plan, after_close, after_close_step, closed_by, close_answer, close_step_answer}
+use Rattle.vhdx_rewrite.specs.Writing.{header_written}
 use Rattle.vhdx_close.specs.Deciding.{Doable}
 use Rattle.vhdx_replay.proofs.Done.{written-size, admitted-size}
 use Rattle.vhdx_rewrite.proofs.Slots.{slots-low}
@@ -50,52 +50,52 @@ nth-none (u ∷ us) (suc i) h = nth-none us i (omega arith)
 
 -- ---- a refusal
 
-module _ (identifier b : List ℕ) (n x : ℕ) (e : refused x ≡ closePlan identifier (file b n)) where
-  pub refused-close : (◌≡◌ {A = Closed} (record { refusal = x; length = n; count = 0 }) (closeAnswer identifier (file b n))) × (b ≡ (afterClose identifier (file b n)).buffer)
-  unfolding closeAnswer afterClose
+module _ (identifier b : List ℕ) (n x : ℕ) (e : refused x ≡ close_plan identifier (file b n)) where
+  pub refused-close : (◌≡◌ {A = Closed} (record { refusal = x; length = n; count = 0 }) (close_answer identifier (file b n))) × (b ≡ (after_close identifier (file b n)).buffer)
+  unfolding close_answer after_close
   refused-close = (
-    ap (λ (p : Plan). closedBy p (runs (steps p) (file b n)) (count (plan b n))) e,
+    ap (λ (p : Plan). closed_by p (runs (steps p) (file b n)) (count (plan b n))) e,
     ap (λ (p : Plan). (runs (steps p) (file b n)).buffer) e,
   )
 
-  pub refused-step : (k : ℕ) → (◌≡◌ {A = Stepped} (record { refusal = x; length = n }) (closeStepAnswer identifier k (file b n))) × (b ≡ (afterCloseStep identifier k (file b n)).buffer)
-  unfolding closeStepAnswer afterCloseStep
+  pub refused-step : (k : ℕ) → (◌≡◌ {A = Stepped} (record { refusal = x; length = n }) (close_step_answer identifier k (file b n))) × (b ≡ (after_close_step identifier k (file b n)).buffer)
+  unfolding close_step_answer after_close_step
   refused-step k = (
     ap (λ (p : Plan). says p) e,
     ap (λ (p : Plan). (runs (single p k n) (file b n)).buffer) e,
   )
     where
       says : Plan → Stepped
-      says p = record { refusal = refusalOf (chosen p k n); length = (runs (single p k n) (file b n)).size }
+      says p = record { refusal = refusal_of (chosen p k n); length = (runs (single p k n) (file b n)).size }
 
 -- ---- the work
 
 module _ (identifier b : List ℕ) (n : ℕ) (job : Job) (d : Doable b n job) where
   -- whether the header is behind it or not, its plan is growth to the same length, and some sectors
-  plan-some : (us : List Sector) × (closePlan identifier (file b n) ≡ apply job.work.length us)
+  plan-some : (us : List Sector) × (close_plan identifier (file b n) ≡ apply job.work.length us)
   plan-some = go job.rewrite refl
     where
-      go : (t : Bool) → job.rewrite ≡ t → (us : List Sector) × (closePlan identifier (file b n) ≡ apply job.work.length us)
+      go : (t : Bool) → job.rewrite ≡ t → (us : List Sector) × (close_plan identifier (file b n) ≡ apply job.work.length us)
       go true r = (ss identifier b n job d ++ (c identifier b n job d ∷ []), header-plan identifier b n job d r)
       go false r = (ss identifier b n job d, plain-plan identifier b n job d r ∙ log-plan identifier b n job d)
 
   counted : job.work.count ≡ count (plan b n)
   counted = d.planned.counted
 
-  pub done-answer : ◌≡◌ {A = Closed} (record { refusal = 0; length = job.work.length; count = job.work.count }) (closeAnswer identifier (file b n))
-  unfolding closeAnswer afterClose
+  pub done-answer : ◌≡◌ {A = Closed} (record { refusal = 0; length = job.work.length; count = job.work.count }) (close_answer identifier (file b n))
+  unfolding close_answer after_close
   done-answer =
       let us = plan-some.0 in
-      sym (ap (λ (p : Plan). closedBy p (runs (steps p) (file b n)) (count (plan b n))) plan-some.1
+      sym (ap (λ (p : Plan). closed_by p (runs (steps p) (file b n)) (count (plan b n))) plan-some.1
       ∙ ap₂ (λ (l k : ℕ). record { refusal = 0; length = l; count = k }) (written-size us (run (grow job.work.length) (file b n))) (sym counted))
 
   -- ---- step 0
 
   pub grown-step : (k : ℕ) (g : List ℕ) → k ≡ 0 → g ≡ (runs (take (0 + 1) (steps (plan b n))) (file b n)).buffer
-      → (◌≡◌ {A = Stepped} (record { refusal = 0; length = job.work.length }) (closeStepAnswer identifier k (file b n))) × (g ≡ (afterCloseStep identifier k (file b n)).buffer)
-  unfolding closeStepAnswer afterCloseStep
+      → (◌≡◌ {A = Stepped} (record { refusal = 0; length = job.work.length }) (close_step_answer identifier k (file b n))) × (g ≡ (after_close_step identifier k (file b n)).buffer)
+  unfolding close_step_answer after_close_step
   grown-step k g z e = (
-    sym (ap₂ (λ (j : ℕ) (p : Plan). record { refusal = refusalOf (chosen p j n); length = (runs (single p j n) (file b n)).size }) z plan-some.1),
+    sym (ap₂ (λ (j : ℕ) (p : Plan). record { refusal = refusal_of (chosen p j n); length = (runs (single p j n) (file b n)).size }) z plan-some.1),
     e ∙ ap (λ (p : Plan). (runs (take 1 (steps p)) (file b n)).buffer) (log-plan identifier b n job d)
         ∙ sym (ap₂ (λ (j : ℕ) (p : Plan). (runs (single p j n) (file b n)).buffer) z plan-some.1),
   )
@@ -107,7 +107,7 @@ module _ (identifier b : List ℕ) (n : ℕ) (job : Job) (d : Doable b n job) wh
 
   module _ (i : ℕ) where
     -- by what stands there
-    by-nth : (us : List Sector) → closePlan identifier (file b n) ≡ apply job.work.length us → chosen (closePlan identifier (file b n)) (i + 1) n ≡ admitted n (get_elem? (map write us) i)
+    by-nth : (us : List Sector) → close_plan identifier (file b n) ≡ apply job.work.length us → chosen (close_plan identifier (file b n)) (i + 1) n ≡ admitted n (get_elem? (map write us) i)
     by-nth us e =
         ap (λ (p : Plan). chosen p (i + 1) n) e
         ∙ ap (λ (j : ℕ). admitted n (get_elem? (steps (apply job.work.length us)) j)) (add-one i)
@@ -117,34 +117,34 @@ module _ (identifier b : List ℕ) (n : ℕ) (job : Job) (d : Doable b n job) wh
         ap (λ (p : Plan). chosen p (i + 1) n) (log-plan identifier b n job d)
         ∙ ap (λ (j : ℕ). admitted n (get_elem? (steps (apply job.work.length (ss identifier b n job d))) j)) (add-one i)
 
-    same-choice : i < job.work.count → chosen (plan b n) (i + 1) n ≡ chosen (closePlan identifier (file b n)) (i + 1) n
+    same-choice : i < job.work.count → chosen (plan b n) (i + 1) n ≡ chosen (close_plan identifier (file b n)) (i + 1) n
     same-choice l = go job.rewrite refl
       where
-        go : (t : Bool) → job.rewrite ≡ t → chosen (plan b n) (i + 1) n ≡ chosen (closePlan identifier (file b n)) (i + 1) n
+        go : (t : Bool) → job.rewrite ≡ t → chosen (plan b n) (i + 1) n ≡ chosen (close_plan identifier (file b n)) (i + 1) n
         go false r = sym (ap (λ (p : Plan). chosen p (i + 1) n) (plain-plan identifier b n job d r))
         go true r =
             log-nth
             ∙ ap (admitted n) (sym (nth_left (ss identifier b n job d) (c identifier b n job d) i (omega (arith, l, long-ss))))
             ∙ sym (by-nth (ss identifier b n job d ++ (c identifier b n job d ∷ [])) (header-plan identifier b n job d r))
 
-    pub sector-step : (r : ℕ) (g : List ℕ) → i < job.work.count → r ≡ refusalOf (chosen (plan b n) (i + 1) n) → g ≡ (runs (single (plan b n) (i + 1) n) (file b n)).buffer
-        → (r ≡ refusalOf (chosen (closePlan identifier (file b n)) (i + 1) n)) × (g ≡ (afterCloseStep identifier (i + 1) (file b n)).buffer)
-    unfolding afterCloseStep
-    sector-step r g l er eg = (er ∙ ap refusalOf (same-choice l), eg ∙ ap (λ (x : Outcome Step). (runs (steps_of x) (file b n)).buffer) (same-choice l))
+    pub sector-step : (r : ℕ) (g : List ℕ) → i < job.work.count → r ≡ refusal_of (chosen (plan b n) (i + 1) n) → g ≡ (runs (single (plan b n) (i + 1) n) (file b n)).buffer
+        → (r ≡ refusal_of (chosen (close_plan identifier (file b n)) (i + 1) n)) × (g ≡ (after_close_step identifier (i + 1) (file b n)).buffer)
+    unfolding after_close_step
+    sector-step r g l er eg = (er ∙ ap refusal_of (same-choice l), eg ∙ ap (λ (x : Outcome Step). (runs (steps_of x) (file b n)).buffer) (same-choice l))
 
-    none-there : (us : List Sector) → closePlan identifier (file b n) ≡ apply job.work.length us → length us ≤ i → declined 21 ≡ chosen (closePlan identifier (file b n)) (i + 1) n
+    none-there : (us : List Sector) → close_plan identifier (file b n) ≡ apply job.work.length us → length us ≤ i → declined 21 ≡ chosen (close_plan identifier (file b n)) (i + 1) n
     none-there us e l = sym (by-nth us e ∙ ap (admitted n) (nth-none us i l))
 
-    21-step : (declined 21 ≡ chosen (closePlan identifier (file b n)) (i + 1) n) → (21 ≡ refusalOf (chosen (closePlan identifier (file b n)) (i + 1) n)) × (b ≡ (afterCloseStep identifier (i + 1) (file b n)).buffer)
-    unfolding afterCloseStep
-    21-step e = (ap refusalOf e, ap (λ (x : Outcome Step). (runs (steps_of x) (file b n)).buffer) e)
+    21-step : (declined 21 ≡ chosen (close_plan identifier (file b n)) (i + 1) n) → (21 ≡ refusal_of (chosen (close_plan identifier (file b n)) (i + 1) n)) × (b ≡ (after_close_step identifier (i + 1) (file b n)).buffer)
+    unfolding after_close_step
+    21-step e = (ap refusal_of e, ap (λ (x : Outcome Step). (runs (steps_of x) (file b n)).buffer) e)
 
     -- no header, or not yet behind it
     pub no_step : job.work.count ≤ i → (job.rewrite ≡ true → job.work.count < i)
-        → (21 ≡ refusalOf (chosen (closePlan identifier (file b n)) (i + 1) n)) × (b ≡ (afterCloseStep identifier (i + 1) (file b n)).buffer)
+        → (21 ≡ refusal_of (chosen (close_plan identifier (file b n)) (i + 1) n)) × (b ≡ (after_close_step identifier (i + 1) (file b n)).buffer)
     no_step l m = 21-step (go job.rewrite refl)
       where
-        go : (t : Bool) → job.rewrite ≡ t → declined 21 ≡ chosen (closePlan identifier (file b n)) (i + 1) n
+        go : (t : Bool) → job.rewrite ≡ t → declined 21 ≡ chosen (close_plan identifier (file b n)) (i + 1) n
         go false r = none-there (ss identifier b n job d) (plain-plan identifier b n job d r ∙ log-plan identifier b n job d) (omega (arith, l, long-ss))
         go true r =
             none-there (ss identifier b n job d ++ (c identifier b n job d ∷ [])) (header-plan identifier b n job d r)
@@ -152,7 +152,7 @@ module _ (identifier b : List ℕ) (n : ℕ) (job : Job) (d : Doable b n job) wh
 
     -- the header
     module _ (r : job.rewrite ≡ true) where
-      module _ (wide : length (closedHeader (header_at (firstMiB b) job.slot) identifier) ≡ 4096) (z : i ≡ job.work.count) where
+      module _ (wide : length (closed_header (header_at (first_mib b) job.slot) identifier) ≡ 4096) (z : i ≡ job.work.count) where
         fits : end (c identifier b n job d) ≤ n
         unfolding c
         fits =
@@ -160,22 +160,22 @@ module _ (identifier b : List ℕ) (n : ℕ) (job : Job) (d : Doable b n job) wh
             omega (
               arith,
               low.3,
-              (accepted b n d.current).holds-first,
-              ap (λ (s : ℕ). length (closedHeader (header_at (firstMiB b) s) identifier)) (sym d.slot_is) ∙ wide,
+              (accepted b n d.current).holds_first,
+              ap (λ (s : ℕ). length (closed_header (header_at (first_mib b) s) identifier)) (sym d.slot_is) ∙ wide,
             )
 
-        header-choice : answered (write (c identifier b n job d)) ≡ chosen (closePlan identifier (file b n)) (i + 1) n
+        header-choice : answered (write (c identifier b n job d)) ≡ chosen (close_plan identifier (file b n)) (i + 1) n
         header-choice =
             sym (by-nth (ss identifier b n job d ++ (c identifier b n job d ∷ [])) (header-plan identifier b n job d r)
             ∙ ap (admitted n) (nth_end (ss identifier b n job d) (c identifier b n job d) i (z ∙ long-ss))
             ∙ ap (λ (t : Bool). check t (declined 22) (answered (write (c identifier b n job d)))) (le-leb (end (c identifier b n job d)) n fits))
 
-        pub header-step : (g : List ℕ) → g ≡ headerWritten b job.slot identifier
-            → (0 ≡ refusalOf (chosen (closePlan identifier (file b n)) (i + 1) n)) × (g ≡ (afterCloseStep identifier (i + 1) (file b n)).buffer)
-        unfolding afterCloseStep headerWritten c
+        pub header-step : (g : List ℕ) → g ≡ header_written b job.slot identifier
+            → (0 ≡ refusal_of (chosen (close_plan identifier (file b n)) (i + 1) n)) × (g ≡ (after_close_step identifier (i + 1) (file b n)).buffer)
+        unfolding after_close_step header_written c
         header-step g e = (
-          ap refusalOf header-choice,
-          e ∙ ap (λ (s : ℕ). put b (otherSlot s) (closedHeader (header_at (firstMiB b) s) identifier)) d.slot_is
+          ap refusal_of header-choice,
+          e ∙ ap (λ (s : ℕ). put b (other_slot s) (closed_header (header_at (first_mib b) s) identifier)) d.slot_is
               ∙ ap (λ (x : Outcome Step). (runs (steps_of x) (file b n)).buffer) header-choice,
         )
 
@@ -185,15 +185,15 @@ module _ (identifier b : List ℕ) (n : ℕ) (job : Job) (d : Doable b n job) wh
     back : k - 1 + 1 ≡ k
     back = omega arith
 
-    size-kept : (afterCloseStep identifier (k - 1 + 1) (file b n)).size ≡ n
-    unfolding afterCloseStep
+    size-kept : (after_close_step identifier (k - 1 + 1) (file b n)).size ≡ n
+    unfolding after_close_step
     size-kept = ap (λ (x : Outcome Step). (runs (steps_of x) (file b n)).size) (by-nth (k - 1) plan-some.0 plan-some.1) ∙ admitted-size (file b n) n plan-some.0 (k - 1)
 
-    pub later-step : (r : ℕ) (g : List ℕ) → r ≡ refusalOf (chosen (closePlan identifier (file b n)) (k - 1 + 1) n) → g ≡ (afterCloseStep identifier (k - 1 + 1) (file b n)).buffer
-        → (◌≡◌ {A = Stepped} (record { refusal = r; length = n }) (closeStepAnswer identifier k (file b n))) × (g ≡ (afterCloseStep identifier k (file b n)).buffer)
-    unfolding closeStepAnswer
+    pub later-step : (r : ℕ) (g : List ℕ) → r ≡ refusal_of (chosen (close_plan identifier (file b n)) (k - 1 + 1) n) → g ≡ (after_close_step identifier (k - 1 + 1) (file b n)).buffer
+        → (◌≡◌ {A = Stepped} (record { refusal = r; length = n }) (close_step_answer identifier k (file b n))) × (g ≡ (after_close_step identifier k (file b n)).buffer)
+    unfolding close_step_answer
     later-step r g er eg = (
       ap₂ (λ (x y : ℕ). record { refusal = x; length = y }) er (sym size-kept)
-          ∙ ap (λ (j : ℕ). record { refusal = refusalOf (chosen (closePlan identifier (file b n)) j n); length = (afterCloseStep identifier j (file b n)).size }) back,
-      eg ∙ ap (λ (j : ℕ). (afterCloseStep identifier j (file b n)).buffer) back,
+          ∙ ap (λ (j : ℕ). record { refusal = refusal_of (chosen (close_plan identifier (file b n)) j n); length = (after_close_step identifier j (file b n)).size }) back,
+      eg ∙ ap (λ (j : ℕ). (after_close_step identifier j (file b n)).buffer) back,
     )

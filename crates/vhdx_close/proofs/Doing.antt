@@ -11,16 +11,16 @@ use lib.ListN.{length, take}
 use borrow.Author.Tests.{ltb-true}
 use Rattle.decision.specs.Refusal.{check}
 use Rattle.field.specs.Fields.{number}
-use Rattle.vhdx_header.specs.Header.{sequenceNumber}
+use Rattle.vhdx_header.specs.Header.{sequence_number_of}
 use Rattle.vhdx_header.specs.declared.Header.{Header}
 use Rattle.vhdx_header.specs.declared.Answer.{Answer as HeaderAnswer}
 use Rattle.vhdx_header.specs.declared.Answer.TheVariants.{Refused as HeaderRefused, Current}
-use Rattle.vhdx_header.specs.Current.{header_at, firstMiB, currentHeader, otherSlot}
+use Rattle.vhdx_header.specs.Current.{header_at, first_mib, current_header, other_slot}
 use Rattle.vhdx_header.proofs.Laws.{accepted}
 use Rattle.vhdx_header.proofs.Standing.{standing}
 use Rattle.vhdx_walk.specs.Entries.{Sector}
 use Rattle.vhdx_log.specs.Work.{Plan, refused, apply, count}
-use Rattle.vhdx_log.specs.Plan.{plan, planHeader}
+use Rattle.vhdx_log.specs.Plan.{plan, plan_header}
 use Rattle.vhdx_steps.specs.Buffer.{put}
 use Rattle.vhdx_steps.specs.Steps.{File, grow, run, runs, steps}
 use Rattle.vhdx_steps.specs.Calls.{file}
@@ -29,53 +29,53 @@ use Rattle.vhdx_replay.proofs.Done.{done, same-buffer, long, same_start}
 use Rattle.vhdx_close.specs.declared.Job.{Job}
 use Rattle.vhdx_close.specs.declared.Ending.{Ending}
 use Rattle.vhdx_close.specs.declared.Ending.TheVariants.{Nothing, TooGreat, Rewrite}
-use Rattle.vhdx_rewrite.specs.Rewrite.{greatest, closedHeader}
-use Rattle.vhdx_close_steps.specs.Close.{slotIn, headerSector, withHeader, closing, closePlan, afterClose}
-use Rattle.vhdx_rewrite.specs.Writing.{Closable, headerWritten}
-use Rattle.vhdx_close.specs.Deciding.{endingOf, Doable}
+use Rattle.vhdx_rewrite.specs.Rewrite.{greatest, closed_header}
+use Rattle.vhdx_close_steps.specs.Close.{slot_in, header_sector, with_header, closing, close_plan, after_close}
+use Rattle.vhdx_rewrite.specs.Writing.{Closable, header_written}
+use Rattle.vhdx_close.specs.Deciding.{ending_of, Doable}
 use Rattle.vhdx_close_steps.proofs.Order.{runs-snoc}
 
 -- ---- what is decided
 
 -- the plan by what comes behind the last sector
-planBehind : Ending → Plan → Sector → Plan
-planBehind e (refused n) c = refused n
-planBehind Nothing (apply m ss) c = apply m ss
-planBehind TooGreat (apply m ss) c = refused 23
-planBehind Rewrite (apply m ss) c = apply m (ss ++ (c ∷ []))
+plan_behind : Ending → Plan → Sector → Plan
+plan_behind e (refused n) c = refused n
+plan_behind Nothing (apply m ss) c = apply m ss
+plan_behind TooGreat (apply m ss) c = refused 23
+plan_behind Rewrite (apply m ss) c = apply m (ss ++ (c ∷ []))
 
-behind : (h : Header) (c : Sector) (p : Plan) → withHeader h c p ≡ planBehind (endingOf h) p c
-unfolding planBehind
+behind : (h : Header) (c : Sector) (p : Plan) → with_header h c p ≡ plan_behind (ending_of h) p c
+unfolding plan_behind
 behind h c (refused n) = refl
 behind h c (apply m ss) = go (eqb (number h.log_guid) 0) (ltb h.sequence_number greatest)
   where
-    go : (s t : Bool) → cond s (apply m ss) (check t (refused 23) (apply m (ss ++ (c ∷ [])))) ≡ planBehind (cond s Nothing (cond t Rewrite TooGreat)) (apply m ss) c
+    go : (s t : Bool) → cond s (apply m ss) (check t (refused 23) (apply m (ss ++ (c ∷ [])))) ≡ plan_behind (cond s Nothing (cond t Rewrite TooGreat)) (apply m ss) c
     go true t = refl
     go false true = refl
     go false false = refl
 
 module _ (identifier b : List ℕ) (n : ℕ) where
-  pub no_header : {c : ℕ} → HeaderRefused c ≡ currentHeader b n → refused c ≡ closePlan identifier (file b n)
-  unfolding closePlan plan planHeader
-  no_header {c} e = ap (λ (a : HeaderAnswer). closing a identifier (file b n) (planHeader a b n)) e
+  pub no_header : {c : ℕ} → HeaderRefused c ≡ current_header b n → refused c ≡ close_plan identifier (file b n)
+  unfolding close_plan plan plan_header
+  no_header {c} e = ap (λ (a : HeaderAnswer). closing a identifier (file b n) (plan_header a b n)) e
 
-  module _ (h : Header) (k : currentHeader b n ≡ Current h) where
-    closes_by : closePlan identifier (file b n) ≡ planBehind (endingOf h) (plan b n) (headerSector identifier (file b n) h)
-    unfolding closePlan
-    closes_by = ap (λ (a : HeaderAnswer). closing a identifier (file b n) (plan b n)) k ∙ behind h (headerSector identifier (file b n) h) (plan b n)
+  module _ (h : Header) (k : current_header b n ≡ Current h) where
+    closes_by : close_plan identifier (file b n) ≡ plan_behind (ending_of h) (plan b n) (header_sector identifier (file b n) h)
+    unfolding close_plan
+    closes_by = ap (λ (a : HeaderAnswer). closing a identifier (file b n) (plan b n)) k ∙ behind h (header_sector identifier (file b n) h) (plan b n)
 
-    pub no-plan : {c : ℕ} → refused c ≡ plan b n → refused c ≡ closePlan identifier (file b n)
-    unfolding planBehind
-    no-plan {c} e = sym (closes_by ∙ ap (λ (p : Plan). planBehind (endingOf h) p (headerSector identifier (file b n) h)) (sym e) ∙ go (endingOf h))
+    pub no-plan : {c : ℕ} → refused c ≡ plan b n → refused c ≡ close_plan identifier (file b n)
+    unfolding plan_behind
+    no-plan {c} e = sym (closes_by ∙ ap (λ (p : Plan). plan_behind (ending_of h) p (header_sector identifier (file b n) h)) (sym e) ∙ go (ending_of h))
       where
-        go : (x : Ending) → planBehind x (refused c) (headerSector identifier (file b n) h) ≡ refused c
+        go : (x : Ending) → plan_behind x (refused c) (header_sector identifier (file b n) h) ≡ refused c
         go Nothing = refl
         go TooGreat = refl
         go Rewrite = refl
 
-    pub too-great : {m : ℕ} {ss : List Sector} → plan b n ≡ apply m ss → TooGreat ≡ endingOf h → refused 23 ≡ closePlan identifier (file b n)
-    unfolding planBehind
-    too-great e x = sym (closes_by ∙ ap₂ (λ (y : Ending) (p : Plan). planBehind y p (headerSector identifier (file b n) h)) (sym x) e)
+    pub too-great : {m : ℕ} {ss : List Sector} → plan b n ≡ apply m ss → TooGreat ≡ ending_of h → refused 23 ≡ close_plan identifier (file b n)
+    unfolding plan_behind
+    too-great e x = sym (closes_by ∙ ap₂ (λ (y : Ending) (p : Plan). plan_behind y p (header_sector identifier (file b n) h)) (sym x) e)
 
 -- ---- the work, done
 
@@ -84,29 +84,29 @@ module _ (identifier b : List ℕ) (n : ℕ) (job : Job) (d : Doable b n job) wh
   ss = planned b job.log job.work
 
   unfoldable pub c : Sector
-  c = headerSector identifier (file b n) d.header
+  c = header_sector identifier (file b n) d.header
 
   pub log-plan : plan b n ≡ apply job.work.length ss
   unfolding ss
   log-plan = plan-is b n job.log job.work d.planned
 
-  pub plain-plan : job.rewrite ≡ false → closePlan identifier (file b n) ≡ plan b n
-  unfolding planBehind
+  pub plain-plan : job.rewrite ≡ false → close_plan identifier (file b n) ≡ plan b n
+  unfolding plan_behind
   plain-plan r =
       closes_by identifier b n d.header d.current
-      ∙ ap₂ (λ (x : Ending) (p : Plan). planBehind x p (headerSector identifier (file b n) d.header)) (d.ends ∙ ap (λ (t : Bool). cond t Rewrite Nothing) r) log-plan
+      ∙ ap₂ (λ (x : Ending) (p : Plan). plan_behind x p (header_sector identifier (file b n) d.header)) (d.ends ∙ ap (λ (t : Bool). cond t Rewrite Nothing) r) log-plan
       ∙ sym log-plan
 
-  pub header-plan : job.rewrite ≡ true → closePlan identifier (file b n) ≡ apply job.work.length (ss ++ (c ∷ []))
-  unfolding planBehind c
+  pub header-plan : job.rewrite ≡ true → close_plan identifier (file b n) ≡ apply job.work.length (ss ++ (c ∷ []))
+  unfolding plan_behind c
   header-plan r =
       closes_by identifier b n d.header d.current
-      ∙ ap₂ (λ (x : Ending) (p : Plan). planBehind x p (headerSector identifier (file b n) d.header)) (d.ends ∙ ap (λ (t : Bool). cond t Rewrite Nothing) r) log-plan
+      ∙ ap₂ (λ (x : Ending) (p : Plan). plan_behind x p (header_sector identifier (file b n) d.header)) (d.ends ∙ ap (λ (t : Bool). cond t Rewrite Nothing) r) log-plan
 
-  pub below : job.rewrite ≡ true → sequenceNumber (slotIn (file b n) d.header.slot) < greatest
+  pub below : job.rewrite ≡ true → sequence_number_of (slot_in (file b n) d.header.slot) < greatest
   below r = go (eqb (number d.header.log_guid) 0) (ltb d.header.sequence_number greatest) refl (d.ends ∙ ap (λ (t : Bool). cond t Rewrite Nothing) r)
     where
-      go : (s t : Bool) → ltb d.header.sequence_number greatest ≡ t → cond s Nothing (cond t Rewrite TooGreat) ≡ Rewrite → sequenceNumber (slotIn (file b n) d.header.slot) < greatest
+      go : (s t : Bool) → ltb d.header.sequence_number greatest ≡ t → cond s Nothing (cond t Rewrite TooGreat) ≡ Rewrite → sequence_number_of (slot_in (file b n) d.header.slot) < greatest
       go true t e x = let z : ◌≡◌ {A = ℕ} 0 1 = cc in absurd (omega arith)
       go false false e x = let z : ◌≡◌ {A = ℕ} 0 1 = cc in absurd (omega arith)
       go false true e x =
@@ -116,17 +116,17 @@ module _ (identifier b : List ℕ) (n : ℕ) (job : Job) (d : Doable b n job) wh
   pub closable-before : job.rewrite ≡ true → Closable b job.slot
   closable-before r =
       record {
-        large = omega (arith, (accepted b n d.current).holds-first, (accepted b n d.current).fits);
+        large = omega (arith, (accepted b n d.current).holds_first, (accepted b n d.current).fits);
         placed = ⊎_elim (λ x. inl (d.slot_is ∙ x.0)) (λ x. inr (d.slot_is ∙ x.0)) (standing b n d.current).slots;
-        below = subst (λ (s : ℕ). sequenceNumber (header_at (firstMiB b) s) < greatest) (sym d.slot_is) (below r);
+        below = subst (λ (s : ℕ). sequence_number_of (header_at (first_mib b) s) < greatest) (sym d.slot_is) (below r);
       }
 
   module _ (g : List ℕ) (did : g ≡ (runs (take (job.work.count + 1) (steps (plan b n))) (file b n)).buffer) where
-    first-same : firstMiB g ≡ firstMiB b
+    first-same : first_mib g ≡ first_mib b
     first-same = same_start b n job.log job.work d.planned g did
 
-    pub done_plain : job.rewrite ≡ false → g ≡ (afterClose identifier (file b n)).buffer
-    unfolding afterClose
+    pub done_plain : job.rewrite ≡ false → g ≡ (after_close identifier (file b n)).buffer
+    unfolding after_close
     done_plain r = done b n job.log job.work d.planned g did ∙ ap (λ (p : Plan). (runs (steps p) (file b n)).buffer) (sym (plain-plan r))
 
     pub closable : job.rewrite ≡ true → Closable g job.slot
@@ -135,15 +135,15 @@ module _ (identifier b : List ℕ) (n : ℕ) (job : Job) (d : Doable b n job) wh
         record {
           large = omega (arith, before.large, long b n job.log job.work d.planned g did);
           placed = before.placed;
-          below = subst (λ (m : List ℕ). sequenceNumber (header_at m job.slot) < greatest) (sym first-same) before.below;
+          below = subst (λ (m : List ℕ). sequence_number_of (header_at m job.slot) < greatest) (sym first-same) before.below;
         }
 
-    pub done-header : (g' : List ℕ) → job.rewrite ≡ true → g' ≡ headerWritten g job.slot identifier → g' ≡ (afterClose identifier (file b n)).buffer
-    unfolding afterClose headerWritten c ss
+    pub done-header : (g' : List ℕ) → job.rewrite ≡ true → g' ≡ header_written g job.slot identifier → g' ≡ (after_close identifier (file b n)).buffer
+    unfolding after_close header_written c ss
     done-header g' r e =
         e
-        ∙ ap (λ (m : List ℕ). put g (otherSlot job.slot) (closedHeader (header_at m job.slot) identifier)) first-same
-        ∙ ap (λ (s : ℕ). put g (otherSlot s) (closedHeader (header_at (firstMiB b) s) identifier)) d.slot_is
-        ∙ ap (λ (x : List ℕ). put x (otherSlot d.header.slot) (closedHeader (header_at (firstMiB b) d.header.slot) identifier)) (same-buffer b n job.log job.work d.planned g did)
+        ∙ ap (λ (m : List ℕ). put g (other_slot job.slot) (closed_header (header_at m job.slot) identifier)) first-same
+        ∙ ap (λ (s : ℕ). put g (other_slot s) (closed_header (header_at (first_mib b) s) identifier)) d.slot_is
+        ∙ ap (λ (x : List ℕ). put x (other_slot d.header.slot) (closed_header (header_at (first_mib b) d.header.slot) identifier)) (same-buffer b n job.log job.work d.planned g did)
         ∙ ap (λ (f : File). f.buffer) (sym (runs-snoc ss c (run (grow job.work.length) (file b n))))
         ∙ ap (λ (p : Plan). (runs (steps p) (file b n)).buffer) (sym (header-plan r))

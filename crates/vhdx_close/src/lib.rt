@@ -1,12 +1,12 @@
 // Closing a log for good (change request Q-6): the log's work as attach does it, then the header that is not current rewritten.
 ghost use Rattle.std.specs.Prelude.{◌≡◌, ◌+◌};
-ghost use Rattle.decision.specs.Refusal.{refusalOf};
+ghost use Rattle.decision.specs.Refusal.{refusal_of};
 ghost use Rattle.vhdx_header.specs.declared.Answer.TheVariants.{Current};
-ghost use Rattle.vhdx_header.specs.Current.{currentHeader};
+ghost use Rattle.vhdx_header.specs.Current.{current_header};
 ghost use Rattle.vhdx_steps.specs.Calls.{file};
 ghost use Rattle.vhdx_steps.specs.Steps.{chosen};
-ghost use Rattle.vhdx_close_steps.specs.Close.{closePlan, afterClose, closeAnswer, afterCloseStep, closeStepAnswer};
-ghost use Rattle.vhdx_close.specs.Deciding.{endingOf, Decided, Doable};
+ghost use Rattle.vhdx_close_steps.specs.Close.{close_plan, after_close, close_answer, after_close_step, close_step_answer};
+ghost use Rattle.vhdx_close.specs.Deciding.{ending_of, Decided, Doable};
 
 use extent::Extent;
 use vhdx_close_steps::Closed;
@@ -43,7 +43,7 @@ pub enum Ending {
 }
 
 fn last_step(header: Header) -> Ending
-    ensures { result ≡ endingOf header }
+    ensures { result ≡ ending_of header }
 {
     let guid = header.log_guid;
     if (guid.low == 0) & (guid.high == 0) {
@@ -67,7 +67,7 @@ fn decide(buffer: &[u8], length: u64) -> Task
 }
 
 fn decide_with(buffer: &[u8], length: u64, header: Header) -> Task
-    requires { currentHeader buffer.now length ≡ Current header }
+    requires { current_header buffer.now length ≡ Current header }
     ensures { Decided buffer.now length result }
 {
     match vhdx_log::plan(buffer, length) {
@@ -100,8 +100,8 @@ fn decide_with(buffer: &[u8], length: u64, header: Header) -> Task
 // Closes the log of the image that is the buffer's first length bytes: applies it, then rewrites the header that is not current, with
 // this file-write identifier. What is refused is decided before anything is written.
 pub fn close(buffer: &mut [u8], length: u64, identifier: &[u8; 16]) -> Closed
-    ensures value { result ≡ closeAnswer identifier.now (file buffer.old length) }
-    ensures buffer_after { buffer.new ≡ (afterClose identifier.now (file buffer.old length)).buffer }
+    ensures value { result ≡ close_answer identifier.now (file buffer.old length) }
+    ensures buffer_after { buffer.new ≡ (after_close identifier.now (file buffer.old length)).buffer }
 {
     match decide(buffer, length) {
         Task::Refused(number) => Closed {
@@ -123,7 +123,7 @@ pub fn close(buffer: &mut [u8], length: u64, identifier: &[u8; 16]) -> Closed
 
 fn carry_out(buffer: &mut [u8], length: u64, identifier: &[u8; 16], job: Job)
     requires { Doable buffer.old length job }
-    ensures { buffer.new ≡ (afterClose identifier.now (file buffer.old length)).buffer }
+    ensures { buffer.new ≡ (after_close identifier.now (file buffer.old length)).buffer }
 {
     let work = job.work;
     let log = job.log;
@@ -135,8 +135,8 @@ fn carry_out(buffer: &mut [u8], length: u64, identifier: &[u8; 16], job: Job)
 
 // Step k of closing alone: 0 grows the image, k writes sector k, and the step after the last sector's writes the header.
 pub fn close_step(buffer: &mut [u8], length: u64, identifier: &[u8; 16], k: u64) -> Stepped
-    ensures value { result ≡ closeStepAnswer identifier.now k (file buffer.old length) }
-    ensures buffer_after { buffer.new ≡ (afterCloseStep identifier.now k (file buffer.old length)).buffer }
+    ensures value { result ≡ close_step_answer identifier.now k (file buffer.old length) }
+    ensures buffer_after { buffer.new ≡ (after_close_step identifier.now k (file buffer.old length)).buffer }
 {
     match decide(buffer, length) {
         Task::Refused(number) => Stepped {
@@ -164,8 +164,8 @@ pub fn close_step(buffer: &mut [u8], length: u64, identifier: &[u8; 16], k: u64)
 // Step i + 1: a sector, or the header behind the last one.
 fn write_one(buffer: &mut [u8], length: u64, identifier: &[u8; 16], job: Job, i: u64) -> u64
     requires { Doable buffer.old length job }
-    ensures value { result ≡ refusalOf (chosen (closePlan identifier.now (file buffer.old length)) (i + 1) length) }
-    ensures buffer_after { buffer.new ≡ (afterCloseStep identifier.now (i + 1) (file buffer.old length)).buffer }
+    ensures value { result ≡ refusal_of (chosen (close_plan identifier.now (file buffer.old length)) (i + 1) length) }
+    ensures buffer_after { buffer.new ≡ (after_close_step identifier.now (i + 1) (file buffer.old length)).buffer }
 {
     let work = job.work;
     let log = job.log;

@@ -15,16 +15,16 @@ use lib.Seq.{drop-cons, take-suc, take_all, drop-append_seam, get_or-append_seam
 use borrow.Author.Tests.{le-leb}
 use Rattle.decision.specs.Refusal.{Outcome, refused, answered, check}
 use Rattle.field.specs.Fields.{Bytes, number}
-use Rattle.extent.specs.Extent.{MiB}
+use Rattle.extent.specs.Extent.{mib}
 use Rattle.vhdx_header.specs.declared.Header.{Header}
 use Rattle.vhdx_header.specs.declared.Answer.{Answer}
 use Rattle.vhdx_header.specs.declared.Answer.TheVariants.{Current}
-use Rattle.vhdx_header.specs.Header.{validHeader}
-use Rattle.vhdx_header.specs.Current.{currentHeader, otherSlot}
+use Rattle.vhdx_header.specs.Header.{valid_header}
+use Rattle.vhdx_header.specs.Current.{current_header, other_slot}
 use Rattle.vhdx_header.proofs.Laws.{accepted}
 use Rattle.vhdx_walk.specs.Entries.{Sector}
 use Rattle.vhdx_log.specs.Work.{Plan, apply}
-use Rattle.vhdx_log.specs.Plan.{extentOf}
+use Rattle.vhdx_log.specs.Plan.{extent_of}
 use Rattle.vhdx_steps.specs.Steps.{File, end, In, Named, Step, grow, write, run, runs, TornWrite, TornGrowth, Torn, Ran, stop, torn, next, steps, admitted, steps_of, chosen, single}
 use Rattle.vhdx_steps.specs.Buffer.{put}
 use Rattle.vhdx_steps.specs.Calls.{plan_of}
@@ -35,9 +35,9 @@ use Rattle.vhdx_steps.proofs.Restart.{EndBy, Good, nothing, both, done, of-step,
 use Rattle.vhdx_steps.proofs.Losses.{reopened-lost}
 use Rattle.vhdx_steps.proofs.Reading.{reads}
 use Rattle.vhdx_steps.proofs.Sectors.{Kept, clash}
-use Rattle.vhdx_rewrite.specs.Rewrite.{closedHeader}
+use Rattle.vhdx_rewrite.specs.Rewrite.{closed_header}
 use Rattle.vhdx_rewrite.specs.Rewrite.{greatest}
-use Rattle.vhdx_close_steps.specs.Close.{slotIn, headerSector, closePlan, afterClose, afterCloseStep}
+use Rattle.vhdx_close_steps.specs.Close.{slot_in, header_sector, close_plan, after_close, after_close_step}
 use Rattle.vhdx_close_steps.specs.Calls.{WholeBy, WholeIfValid, Call, close, step, refuse, interrupted-close, interrupted-step}
 use Rattle.vhdx_close_steps.specs.Failures.{SlotKeptBy, Failed, sectors-lost, header-lost, History}
 use Rattle.vhdx_close_steps.specs.Safety.{HasNoLog}
@@ -82,8 +82,8 @@ all-at P (t ∷ ts) d zero h a = a.0
 all-at P (t ∷ ts) d (suc j) h a = all-at P ts d j (omega arith) a.1
 
 -- a refused step leaves the file
-refused-same : (identifier : List ℕ) (j x : ℕ) (f : File) → chosen (closePlan identifier f) j f.size ≡ refused x → afterCloseStep identifier j f ≡ f
-unfolding afterCloseStep
+refused-same : (identifier : List ℕ) (j x : ℕ) (f : File) → chosen (close_plan identifier f) j f.size ≡ refused x → after_close_step identifier j f ≡ f
+unfolding after_close_step
 refused-same identifier j x f r = ap (λ (y : Outcome Step). runs (steps_of y) f) r
 
 -- a write that is taken back: its sector is one more in which the two may differ
@@ -91,42 +91,42 @@ back_one : (m : ℕ) (s : Sector) (ts : List Sector) {f g : File} → end s ≤ 
 back_one m s ts {f} {g} e b a =
     let bg : end s ≤ length g.buffer = omega arith in
     record {
-      big-f = a.big-f;
-      big-g = b;
-      size-f = a.size-f;
-      size-g = a.size-g;
+      big_f = a.big_f;
+      big_g = b;
+      size_f = a.size_f;
+      size_g = a.size_g;
       rest = λ i l n. a.rest i l (λ x. n (inr x)) ∙ put-out g.buffer s.offset s.bytes bg i (λ x. n (inl x));
     }
 
-module _ (identifier : List ℕ) (sixteen : length identifier ≡ 16) (o : File) (h : Header) (k : currentHeader o.buffer o.size ≡ Current h)
+module _ (identifier : List ℕ) (sixteen : length identifier ≡ 16) (o : File) (h : Header) (k : current_header o.buffer o.size ≡ Current h)
     {m : ℕ} {ss : List Sector} (e : plan_of o ≡ apply m ss) where
-  R : Reads (Kept (extentOf h)) o m ss
+  R : Reads (Kept (extent_of h)) o m ss
   R = reads o h k e
 
   abbrev other : ℕ
-  other = otherSlot h.slot
+  other = other_slot h.slot
 
   -- the header's write, and all that closing writes
   abbrev c : Sector
-  c = headerSector identifier o h
+  c = header_sector identifier o h
 
   abbrev ts : List Sector
   ts = ss ++ (c ∷ [])
 
-  large : MiB ≤ o.size
-  large = (accepted o.buffer o.size k).holds-first
+  large : mib ≤ o.size
+  large = (accepted o.buffer o.size k).holds_first
 
   -- a buffer that the final length fits in
-  holds-MiB : (f : File) → m ≤ length f.buffer → MiB ≤ length f.buffer
-  holds-MiB f fits = omega (arith, large, R.grows, fits)
+  holds-mib : (f : File) → m ≤ length f.buffer → mib ≤ length f.buffer
+  holds-mib f fits = omega (arith, large, R.grows, fits)
 
   c-long : length c.bytes ≡ 4096
-  c-long = closed-long (slotIn o h.slot) identifier (long identifier o h k e) sixteen
+  c-long = closed-long (slot_in o h.slot) identifier (long identifier o h k e) sixteen
 
-  c-ends : end c ≤ MiB
+  c-ends : end c ≤ mib
   c-ends = let low = slots-low (slots-of identifier o h k e) in omega (arith, c-long, low.1, low.3)
 
-  pub ends : EndBy m (ss ++ (headerSector identifier o h ∷ []))
+  pub ends : EndBy m (ss ++ (header_sector identifier o h ∷ []))
   ends = all_append (λ (s : Sector). end s ≤ m) ss (c ∷ []) R.ends (omega (arith, c-ends, large, R.grows), tt)
 
   -- a sector of the log's work
@@ -151,27 +151,27 @@ module _ (identifier : List ℕ) (sixteen : length identifier ≡ 16) (o : File)
   mild-good (grow n) q = q
   mild-good (write s) q = (q.0, λ i x. named-left ss c i (q.1 i x))
 
-  mild-slot : (s : Step) (f g : File) → Mild s → Lost m ts o f → Torn s f g → slotIn g other ≡ slotIn f other
+  mild-slot : (s : Step) (f g : File) → Mild s → Lost m ts o f → Torn s f g → slot_in g other ≡ slot_in f other
   unfolding Mild Own
   mild-slot (grow n) f g q v t =
       let low = slots-low (slots-of identifier o h k e) in
-      let b = holds-MiB f (v.capacity R.fits) in
-      slot_same f.buffer g.buffer (otherSlot h.slot) low.3 (omega (arith, b, t.capacity)) b
+      let b = holds-mib f (v.capacity R.fits) in
+      slot_same f.buffer g.buffer (other_slot h.slot) low.3 (omega (arith, b, t.capacity)) b
       (λ i x y. t.given i (omega (arith, large, v.from, low.3)))
   mild-slot (write s) f g q v t =
       let low = slots-low (slots-of identifier o h k e) in
-      let b = holds-MiB f (v.capacity R.fits) in
-      slot_same f.buffer g.buffer (otherSlot h.slot) low.3 (omega (arith, b, t.capacity)) b
+      let b = holds-mib f (v.capacity R.fits) in
+      slot_same f.buffer g.buffer (other_slot h.slot) low.3 (omega (arith, b, t.capacity)) b
       (λ i x y. t.rest i (λ z. R.apart i (inl (omega (arith, low.3))) (q.1 i z)))
 
   -- ---- before the header is written
 
   Dormant : File → Type 0
-  Dormant f = validHeader (slotIn f other) ≡ true → slotIn f other ≡ slotIn o other
+  Dormant f = valid_header (slot_in f other) ≡ true → slot_in f other ≡ slot_in o other
 
-  dormant-on : (f g : File) → slotIn g other ≡ slotIn f other → Dormant f → Dormant g
+  dormant-on : (f g : File) → slot_in g other ≡ slot_in f other → Dormant f → Dormant g
   unfolding Dormant
-  dormant-on f g q d v = q ∙ d (sym (ap validHeader q) ∙ v)
+  dormant-on f g q d v = q ∙ d (sym (ap valid_header q) ∙ v)
 
   -- what all of closing leaves of the original; the first j of its writes alone
   T : File
@@ -263,7 +263,7 @@ module _ (identifier : List ℕ) (sixteen : length identifier ≡ 16) (o : File)
   -- ---- what is touched
 
   -- the rest of the first MiB, and the log
-  pub untouched : (f : File) → Lost m (ss ++ (headerSector identifier o h ∷ [])) o f → (i : ℕ) → KeptHere identifier o h k e i → get_or f.buffer i 0 ≡ get_or o.buffer i 0
+  pub untouched : (f : File) → Lost m (ss ++ (header_sector identifier o h ∷ [])) o f → (i : ℕ) → KeptHere identifier o h k e i → get_or f.buffer i 0 ≡ get_or o.buffer i 0
   untouched f v i x =
       v.given i (R.inside i x.0)
       (λ n. ⊎_elim (λ y. R.apart i x.0 y) (λ y. x.1 (y.0, omega (arith, y.1, c-long))) (named-split ss c i n))
@@ -279,56 +279,56 @@ module _ (identifier : List ℕ) (sixteen : length identifier ≡ 16) (o : File)
   unfolding Closed
   closed-inv f a =
       record {
-        from = omega (arith, a.size-f, R.grows);
-        to = omega (arith, a.size-f);
+        from = omega (arith, a.size_f, R.grows);
+        to = omega (arith, a.size_f);
         given = λ i l n. a.rest i (omega (arith, R.grows)) (λ x. x) ∙ T-inv.given i l n;
-        zeros = λ i l u n. a.rest i (omega (arith, a.size-f)) (λ x. x) ∙ T-inv.zeros i l (omega (arith, a.size-f, a.size-g)) n;
-        capacity = λ x. a.big-f;
+        zeros = λ i l u n. a.rest i (omega (arith, a.size_f)) (λ x. x) ∙ T-inv.zeros i l (omega (arith, a.size_f, a.size_g)) n;
+        capacity = λ x. a.big_f;
       }
 
   -- the header is the last that is written
   T-last : T ≡ run (write c) (target (length ss))
   T-last = sym target-all ∙ target-next (length ss) (omega arith) ∙ ap (λ (s : Sector). run (write s) (target (length ss))) nth_last
 
-  T-slot : slotIn T other ≡ closedHeader (slotIn o h.slot) identifier
+  T-slot : slot_in T other ≡ closed_header (slot_in o h.slot) identifier
   T-slot =
       let low = slots-low (slots-of identifier o h k e) in
-      let b : MiB ≤ length T.buffer = holds-MiB T (T-inv.capacity R.fits) in
-      let fits : c.offset + length c.bytes ≤ length (target (length ss)).buffer = omega (arith, c-ends, holds-MiB o R.fits, target-long (length ss) (omega arith)) in
-      slot-part T.buffer (otherSlot h.slot) low.3 b
-      ∙ ap (λ (f : File). take 4096 (drop (otherSlot h.slot) f.buffer)) T-last
+      let b : mib ≤ length T.buffer = holds-mib T (T-inv.capacity R.fits) in
+      let fits : c.offset + length c.bytes ≤ length (target (length ss)).buffer = omega (arith, c-ends, holds-mib o R.fits, target-long (length ss) (omega arith)) in
+      slot-part T.buffer (other_slot h.slot) low.3 b
+      ∙ ap (λ (f : File). take 4096 (drop (other_slot h.slot) f.buffer)) T-last
       ∙ ap (λ (n : ℕ). take n (drop c.offset (put (target (length ss)).buffer c.offset c.bytes))) (sym c-long)
       ∙ part_in (target (length ss)).buffer c.offset c.bytes fits
 
   closed-full : (f : File) → Closed f → f.size ≡ m
   unfolding Closed
-  closed-full f a = a.size-f
+  closed-full f a = a.size_f
 
-  closed-slot : (f : File) → Closed f → slotIn f other ≡ closedHeader (slotIn o h.slot) identifier
+  closed-slot : (f : File) → Closed f → slot_in f other ≡ closed_header (slot_in o h.slot) identifier
   unfolding Closed
   closed-slot f a =
       let low = slots-low (slots-of identifier o h k e) in
-      slot_same T.buffer f.buffer (otherSlot h.slot) low.3 (holds-MiB f a.big-f) (holds-MiB T a.big-g)
+      slot_same T.buffer f.buffer (other_slot h.slot) low.3 (holds-mib f a.big_f) (holds-mib T a.big_g)
       (λ i x y. a.rest i (omega (arith, low.3, large, R.grows)) (λ z. z))
       ∙ T-slot
 
   -- ---- the plan, before and after
 
   module _ (log : eqb (number h.log_guid) 0 ≡ false) (raisable : ltb h.sequence_number greatest ≡ true) where
-    pub plan-is : closePlan identifier o ≡ apply m ts
-    unfolding closePlan
+    pub plan-is : close_plan identifier o ≡ apply m ts
+    unfolding close_plan
     plan-is = rw (k, e, log, raisable)
 
-    open-current : (n : ℕ) (f : File) → Open n f → currentHeader f.buffer f.size ≡ Current h
+    open-current : (n : ℕ) (f : File) → Open n f → current_header f.buffer f.size ≡ Current h
     unfolding Dormant
     open-current n f q = still-current identifier o h k e f (q.inv.capacity R.fits) q.inv.from q.inv.to (untouched f q.inv) q.dormant
 
-    open-plan : (n : ℕ) (f : File) → Open n f → closePlan identifier f ≡ apply m ts
+    open-plan : (n : ℕ) (f : File) → Open n f → close_plan identifier f ≡ apply m ts
     unfolding Dormant
     open-plan n f q = close-again identifier o h k e f (q.inv.capacity R.fits) q.inv.from q.inv.to (untouched f q.inv) q.dormant ∙ plan-is
 
     module _ (named-bytes : Bytes identifier) (bytes : Bytes o.buffer) where
-      closed-plan : (f : File) → Closed f → closePlan identifier f ≡ apply m []
+      closed-plan : (f : File) → Closed f → close_plan identifier f ≡ apply m []
       closed-plan f q =
           let v = closed-inv f q in
           close-done identifier o h k e f (v.capacity R.fits) v.from v.to (untouched f v) sixteen named-bytes bytes raisable (closed-full f q) (closed-slot f q)
@@ -337,11 +337,11 @@ module _ (identifier : List ℕ) (sixteen : length identifier ≡ 16) (o : File)
 
   T-size : T.size ≡ m
   unfolding T
-  T-size = (all_done R.grows R.fits ends (nothing m ts R.grows)).size-g
+  T-size = (all_done R.grows R.fits ends (nothing m ts R.grows)).size_g
 
   -- what an interruption may leave in the slot
   Settled : File → Type 0
-  Settled g = validHeader (slotIn g other) ≡ true → (slotIn g other ≡ slotIn o other) ⊎ (slotIn g other ≡ closedHeader (slotIn o h.slot) identifier)
+  Settled g = valid_header (slot_in g other) ≡ true → (slot_in g other ≡ slot_in o other) ⊎ (slot_in g other ≡ closed_header (slot_in o h.slot) identifier)
 
   weaken : (n : ℕ) (f : File) → Open n f → Open zero f
   unfolding Progress
@@ -376,37 +376,37 @@ module _ (identifier : List ℕ) (sixteen : length identifier ≡ 16) (o : File)
     torn-inv : Lost m ts o g
     torn-inv = both m ts q.inv (of-step m ts (write c) c-good q.inv.to t)
 
-    torn-done : slotIn g other ≡ closedHeader (slotIn o h.slot) identifier → Closed g
+    torn-done : slot_in g other ≡ closed_header (slot_in o h.slot) identifier → Closed g
     unfolding Closed
     torn-done w =
         let low = slots-low (slots-of identifier o h k e) in
-        let bg : MiB ≤ length g.buffer = holds-MiB g (torn-inv.capacity R.fits) in
-        let bT : MiB ≤ length T.buffer = holds-MiB T (T-inv.capacity R.fits) in
-        let bG : end c ≤ length G.buffer = omega (arith, a.big-g, c-ends, large, R.grows) in
+        let bg : mib ≤ length g.buffer = holds-mib g (torn-inv.capacity R.fits) in
+        let b_t : mib ≤ length T.buffer = holds-mib T (T-inv.capacity R.fits) in
+        let b_g : end c ≤ length G.buffer = omega (arith, a.big_g, c-ends, large, R.grows) in
         record {
-          big-f = torn-inv.capacity R.fits;
-          big-g = T-inv.capacity R.fits;
-          size-f = t.same_size ∙ a.size-f;
-          size-g = T-size;
+          big_f = torn-inv.capacity R.fits;
+          big_g = T-inv.capacity R.fits;
+          size_f = t.same_size ∙ a.size_f;
+          size_g = T-size;
           rest = λ i l z.
               ⊎_elim
               (λ x.
-              let u : i < otherSlot h.slot + 4096 = omega (arith, x.1, c-long) in
-              slot-byte g.buffer (otherSlot h.slot) i low.3 bg x.0 u
-              ∙ ap (λ (b : List ℕ). get_or b (i - otherSlot h.slot) 0) (w ∙ sym T-slot)
-              ∙ sym (slot-byte T.buffer (otherSlot h.slot) i low.3 bT x.0 u))
+              let u : i < other_slot h.slot + 4096 = omega (arith, x.1, c-long) in
+              slot-byte g.buffer (other_slot h.slot) i low.3 bg x.0 u
+              ∙ ap (λ (b : List ℕ). get_or b (i - other_slot h.slot) 0) (w ∙ sym T-slot)
+              ∙ sym (slot-byte T.buffer (other_slot h.slot) i low.3 b_t x.0 u))
               (λ x.
               t.rest i x ∙ a.rest i l (λ y. ⊎_elim x (λ v. v) y)
-              ∙ sym (put-out G.buffer c.offset c.bytes bG i x)
+              ∙ sym (put-out G.buffer c.offset c.bytes b_g i x)
               ∙ ap (λ (y : File). get_or y.buffer i 0) last)
               (in-or-out i c);
         }
 
     header-torn : Settled g → Open zero g ⊎ Closed g
     unfolding Settled Dormant Progress
-    header-torn w = go (validHeader (slotIn g other)) refl
+    header-torn w = go (valid_header (slot_in g other)) refl
       where
-        go : (b : Bool) → validHeader (slotIn g other) ≡ b → Open zero g ⊎ Closed g
+        go : (b : Bool) → valid_header (slot_in g other) ≡ b → Open zero g ⊎ Closed g
         go false v = inl record { inv = torn-inv; dormant = λ x. clash x v; progress = tt }
         go true v = ⊎_elim (λ x. inl record { inv = torn-inv; dormant = λ y. x; progress = tt }) (λ x. inr (torn-done x)) (w v)
 
@@ -467,7 +467,7 @@ module _ (identifier : List ℕ) (sixteen : length identifier ≡ 16) (o : File)
 
   full_by : (j : ℕ) (f : File) → Progress (suc j) f → f.size ≡ m
   unfolding Progress
-  full_by j f p = p.1.size-f
+  full_by j f p = p.1.size_f
 
   -- the step that a number names
   single-is : (j size : ℕ) → j ≤ length ss → size ≡ m → single (apply m ts) (suc j) size ≡ write (nth j) ∷ []
@@ -552,20 +552,20 @@ module _ (identifier : List ℕ) (sixteen : length identifier ≡ 16) (o : File)
   agree_on : (us : List Sector) {f g G : File} → Lost m [] f g → Agree m us f G → Agree m us g G
   agree_on us x a =
       record {
-        big-f = x.capacity a.big-f;
-        big-g = a.big-g;
-        size-f = omega (arith, x.from, x.to, a.size-f);
-        size-g = a.size-g;
-        rest = λ i l n. x.given i (omega (arith, a.size-f)) (λ y. y) ∙ a.rest i l n;
+        big_f = x.capacity a.big_f;
+        big_g = a.big_g;
+        size_f = omega (arith, x.from, x.to, a.size_f);
+        size_g = a.size_g;
+        rest = λ i l n. x.given i (omega (arith, a.size_f)) (λ y. y) ∙ a.rest i l n;
       }
 
   closed-torn : (f g : File) → Closed f → TornGrowth m f g → Closed g
   unfolding Closed
-  closed-torn f g a t = agree_on [] (of-step m [] (grow m) refl (omega (arith, a.size-f)) t) a
+  closed-torn f g a t = agree_on [] (of-step m [] (grow m) refl (omega (arith, a.size_f)) t) a
 
   closed-grown : (f : File) → Closed f → Closed (run (grow m) f)
   unfolding Closed
-  closed-grown f a = closed-torn f (run (grow m) f) a (done m ts (grow m) f refl (omega (arith, a.size-f)) a.big-f)
+  closed-grown f a = closed-torn f (run (grow m) f) a (done m ts (grow m) f refl (omega (arith, a.size_f)) a.big_f)
 
   closed-ran : (f g : File) → Closed f → Ran (grow m ∷ []) f g → Closed g
   closed-ran f g a r =
@@ -589,36 +589,36 @@ module _ (identifier : List ℕ) (sixteen : length identifier ≡ 16) (o : File)
     settled-by n f g q w v =
         let u = subst (λ (x : Answer). WholeBy x identifier f g) (open-current log raisable n f q) w in
         ⊎_elim
-        (λ x. inl (x ∙ q.dormant (sym (ap validHeader x) ∙ v)))
-        (λ x. inr (x ∙ ap (λ (y : List ℕ). closedHeader y identifier) (current-kept identifier o h k e f (q.inv.capacity R.fits) q.inv.from q.inv.to (untouched f q.inv))))
+        (λ x. inl (x ∙ q.dormant (sym (ap valid_header x) ∙ v)))
+        (λ x. inr (x ∙ ap (λ (y : List ℕ). closed_header y identifier) (current-kept identifier o h k e f (q.inv.capacity R.fits) q.inv.from q.inv.to (untouched f q.inv))))
         (u v)
 
     -- a close that is run to its end
-    open-closed : (n : ℕ) (f : File) → Open n f → Closed (afterClose identifier f)
-    unfolding afterClose Closed T
+    open-closed : (n : ℕ) (f : File) → Open n f → Closed (after_close identifier f)
+    unfolding after_close Closed T
     open-closed n f q = rw (open-plan log raisable n f q) (all_done R.grows R.fits ends q.inv)
 
-    closed-closed : (f : File) → Closed f → Closed (afterClose identifier f)
-    unfolding afterClose
+    closed-closed : (f : File) → Closed f → Closed (after_close identifier f)
+    unfolding after_close
     closed-closed f q = rw (closed-plan log raisable named-bytes bytes f q) (closed-grown f q)
 
-    stepped : (n j : ℕ) (f : File) → j ≤ n → State n f → State (suc j) (afterCloseStep identifier j f)
-    unfolding afterCloseStep State
+    stepped : (n j : ℕ) (f : File) → j ≤ n → State n f → State (suc j) (after_close_step identifier j f)
+    unfolding after_close_step State
     stepped n j f b (inl q) = rw (open-plan log raisable n f q) (single-done n j f b q)
-    stepped n j f b (inr q) = inr (closed-single j f.size f (runs (single (closePlan identifier f) j f.size) f) q
-        (subst (λ (p : Plan). Ran (single p j f.size) f (runs (single (closePlan identifier f) j f.size) f)) (closed-plan log raisable named-bytes bytes f q) (whole (single (closePlan identifier f) j f.size) f)))
+    stepped n j f b (inr q) = inr (closed-single j f.size f (runs (single (close_plan identifier f) j f.size) f) q
+        (subst (λ (p : Plan). Ran (single p j f.size) f (runs (single (close_plan identifier f) j f.size) f)) (closed-plan log raisable named-bytes bytes f q) (whole (single (close_plan identifier f) j f.size) f)))
 
-    interrupted-closed : (n : ℕ) (f g : File) → State n f → Ran (steps (closePlan identifier f)) f g → WholeIfValid identifier f g → State zero g
+    interrupted-closed : (n : ℕ) (f g : File) → State n f → Ran (steps (close_plan identifier f)) f g → WholeIfValid identifier f g → State zero g
     unfolding State
     interrupted-closed n f g (inl q) r w = steps-ran n f g q (settled-by n f g q w) (subst (λ (p : Plan). Ran (steps p) f g) (open-plan log raisable n f q) r)
     interrupted-closed n f g (inr q) r w = inr (closed-ran f g q (subst (λ (p : Plan). Ran (steps p) f g) (closed-plan log raisable named-bytes bytes f q) r))
 
-    interrupted-stepped : (n j : ℕ) (f g : File) → j ≤ n → State n f → Ran (single (closePlan identifier f) j f.size) f g → WholeIfValid identifier f g → State zero g
+    interrupted-stepped : (n j : ℕ) (f g : File) → j ≤ n → State n f → Ran (single (close_plan identifier f) j f.size) f g → WholeIfValid identifier f g → State zero g
     unfolding State
     interrupted-stepped n j f g b (inl q) r w = single-ran n j f g b q (settled-by n f g q w) (subst (λ (p : Plan). Ran (single p j f.size) f g) (open-plan log raisable n f q) r)
     interrupted-stepped n j f g b (inr q) r w = inr (closed-single j f.size f g q (subst (λ (p : Plan). Ran (single p j f.size) f g) (closed-plan log raisable named-bytes bytes f q) r))
 
-    whole-closed : (n : ℕ) (f : File) → State n f → State n (afterClose identifier f)
+    whole-closed : (n : ℕ) (f : File) → State n f → State n (after_close identifier f)
     unfolding State
     whole-closed n f (inl q) = inr (open-closed n f q)
     whole-closed n f (inr q) = inr (closed-closed f q)
@@ -645,7 +645,7 @@ module _ (identifier : List ℕ) (sixteen : length identifier ≡ 16) (o : File)
     failed-on n f g q (header-lost r w) = interrupted-closed n f g q r w
 
     reopened-agree : (us : List Sector) {f g G : File} → m ≤ length g.buffer → Reopened f g → Agree m us f G → Agree m us g G
-    reopened-agree us fits x a = agree_on us (reopened-lost m [] (omega (arith, a.size-f)) fits x) a
+    reopened-agree us fits x a = agree_on us (reopened-lost m [] (omega (arith, a.size_f)) fits x) a
 
     reopened-progress : (n : ℕ) (f g : File) → m ≤ length g.buffer → Reopened f g → Progress n f → Progress n g
     unfolding Progress
@@ -662,7 +662,7 @@ module _ (identifier : List ℕ) (sixteen : length identifier ≡ 16) (o : File)
         record {
           inv = both m ts v (reopened-lost m ts v.to fits x);
           dormant = dormant-on f g
-              (slot_same f.buffer g.buffer (otherSlot h.slot) low.3 (holds-MiB g fits) (holds-MiB f (v.capacity R.fits))
+              (slot_same f.buffer g.buffer (other_slot h.slot) low.3 (holds-mib g fits) (holds-mib f (v.capacity R.fits))
               (λ i a b. x.same_bytes i (omega (arith, large, v.from, low.3))))
               q.dormant;
           progress = reopened-progress n f g fits x q.progress;
@@ -677,8 +677,8 @@ module _ (identifier : List ℕ) (sixteen : length identifier ≡ 16) (o : File)
     unfolding State Closed
     reopened-on n f g (inl q) x = inl (reopened-open n f g q x)
     reopened-on n f g (inr a) x =
-        let final : f.size ≤ length g.buffer = rw (closed-gone f a).no-work at x.capacity in
-        inr (reopened-agree [] (omega (arith, final, a.size-f)) x a)
+        let final : f.size ≤ length g.buffer = rw (closed-gone f a).no_work at x.capacity in
+        inr (reopened-agree [] (omega (arith, final, a.size_f)) x a)
 
     ended : (n : ℕ) (f : File) → State n f → State zero f
     unfolding State
@@ -689,8 +689,8 @@ module _ (identifier : List ℕ) (sixteen : length identifier ≡ 16) (o : File)
     unfolding State
     after x = (throughout identifier o State called_on failed-on reopened-on ended (inl start) x).1
 
-    whole-T : afterClose identifier o ≡ T
-    unfolding afterClose T
+    whole-T : after_close identifier o ≡ T
+    unfolding after_close T
     whole-T = ap (λ (p : Plan). runs (steps p) o) (plan-is log raisable)
 
     kept_by : (n : ℕ) (f : File) → State n f → Lost m ts o f
@@ -698,16 +698,16 @@ module _ (identifier : List ℕ) (sixteen : length identifier ≡ 16) (o : File)
     kept_by n f (inl q) = q.inv
     kept_by n f (inr q) = closed-inv f q
 
-    closes-alike : (n : ℕ) (f : File) → State n f → Agree m [] (afterClose identifier f) (afterClose identifier o)
+    closes-alike : (n : ℕ) (f : File) → State n f → Agree m [] (after_close identifier f) (after_close identifier o)
     unfolding State Closed
-    closes-alike n f (inl q) = subst (Agree m [] (afterClose identifier f)) (sym whole-T) (open-closed n f q)
-    closes-alike n f (inr q) = subst (Agree m [] (afterClose identifier f)) (sym whole-T) (closed-closed f q)
+    closes-alike n f (inl q) = subst (Agree m [] (after_close identifier f)) (sym whole-T) (open-closed n f q)
+    closes-alike n f (inr q) = subst (Agree m [] (after_close identifier f)) (sym whole-T) (closed-closed f q)
 
     -- what every history leaves, and what one more close then leaves
-    pub closed_after : {n : ℕ} {d f : File} → History identifier o d n f → Lost m (ss ++ (headerSector identifier o h ∷ [])) o f × Agree m [] (afterClose identifier f) (afterClose identifier o)
+    pub closed_after : {n : ℕ} {d f : File} → History identifier o d n f → Lost m (ss ++ (header_sector identifier o h ∷ [])) o f × Agree m [] (after_close identifier f) (after_close identifier o)
     closed_after {n} {f = f} x = let q = after x in (kept_by n f q, closes-alike n f q)
 
     -- the log is gone
-    pub for-good : HasNoLog (afterClose identifier o)
+    pub for-good : HasNoLog (after_close identifier o)
     unfolding Closed
     for-good = rw whole-T (gone identifier o h k e T (T-inv.capacity R.fits) T-inv.from T-inv.to (untouched T T-inv) sixteen named-bytes bytes raisable T-size T-slot)

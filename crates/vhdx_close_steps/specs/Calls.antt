@@ -6,32 +6,32 @@ use Rattle.std.specs.Prelude.{true, List, ◌⊎◌, ◌≡◌, ℕ, zero, suc, 
 use Rattle.decision.specs.Refusal.{refused}
 use Rattle.vhdx_header.specs.declared.Answer.{Answer as HeaderAnswer}
 use Rattle.vhdx_header.specs.declared.Answer.TheVariants.{Refused as HeaderRefused, Current}
-use Rattle.vhdx_header.specs.Header.{validHeader}
-use Rattle.vhdx_header.specs.Current.{currentHeader, otherSlot}
+use Rattle.vhdx_header.specs.Header.{valid_header}
+use Rattle.vhdx_header.specs.Current.{current_header, other_slot}
 use Rattle.vhdx_steps.specs.Steps.{File, Ran, steps, chosen, single}
-use Rattle.vhdx_rewrite.specs.Rewrite.{closedHeader}
-use Rattle.vhdx_close_steps.specs.Close.{slotIn, closePlan, afterClose, afterCloseStep}
+use Rattle.vhdx_rewrite.specs.Rewrite.{closed_header}
+use Rattle.vhdx_close_steps.specs.Close.{slot_in, close_plan, after_close, after_close_step}
 
 -- "the premise that a half-written header isn't valid", of an interrupted call that takes f to g: where the slot of the header that
 -- isn't current in f holds a valid one in g, it is a whole one, the one that was there or the one that closing writes
 abbrev pub WholeBy : HeaderAnswer → List ℕ → File → File → Type 0
 WholeBy (HeaderRefused c) identifier f g = Unit {0}
 WholeBy (Current h) identifier f g =
-    validHeader (slotIn g (otherSlot h.slot)) ≡ true
-    → (slotIn g (otherSlot h.slot) ≡ slotIn f (otherSlot h.slot)) ⊎ (slotIn g (otherSlot h.slot) ≡ closedHeader (slotIn f h.slot) identifier)
+    valid_header (slot_in g (other_slot h.slot)) ≡ true
+    → (slot_in g (other_slot h.slot) ≡ slot_in f (other_slot h.slot)) ⊎ (slot_in g (other_slot h.slot) ≡ closed_header (slot_in f h.slot) identifier)
 
 abbrev pub WholeIfValid : List ℕ → File → File → Type 0
-WholeIfValid identifier f g = WholeBy (currentHeader f.buffer f.size) identifier f g
+WholeIfValid identifier f g = WholeBy (current_header f.buffer f.size) identifier f g
 
 -- `Call identifier e f e' g`: a call takes f to g, where step e is next in order before it and step e' after it. That is 0 at the start
 -- and after each interruption. A step that was done already may be done again; those behind it are then to be done again too
 pub data Call (identifier : List ℕ) (e : ℕ) (f : File) : ℕ → File → Type 0 where
-  close : Call identifier e f e (afterClose identifier f)
-  step : (k : ℕ) → k ≤ e → Call identifier e f (suc k) (afterCloseStep identifier k f)
+  close : Call identifier e f e (after_close identifier f)
+  step : (k : ℕ) → k ≤ e → Call identifier e f (suc k) (after_close_step identifier k f)
   -- a step that is refused, whatever its number
-  refuse : (k c : ℕ) → chosen (closePlan identifier f) k f.size ≡ refused c → Call identifier e f e (afterCloseStep identifier k f)
-  interrupted-close : {g : File} → Ran (steps (closePlan identifier f)) f g → WholeIfValid identifier f g → Call identifier e f zero g
-  interrupted-step : {g : File} (k : ℕ) → k ≤ e → Ran (single (closePlan identifier f) k f.size) f g → WholeIfValid identifier f g → Call identifier e f zero g
+  refuse : (k c : ℕ) → chosen (close_plan identifier f) k f.size ≡ refused c → Call identifier e f e (after_close_step identifier k f)
+  interrupted-close : {g : File} → Ran (steps (close_plan identifier f)) f g → WholeIfValid identifier f g → Call identifier e f zero g
+  interrupted-step : {g : File} (k : ℕ) → k ≤ e → Ran (single (close_plan identifier f) k f.size) f g → WholeIfValid identifier f g → Call identifier e f zero g
 
 -- any list of calls, each on what the one before left
 pub data Calls (identifier : List ℕ) : ℕ → File → File → Type 0 where

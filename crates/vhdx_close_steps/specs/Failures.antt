@@ -7,28 +7,28 @@
 use Rattle.std.specs.Prelude.{List, ◌≡◌, ℕ, zero}
 use Rattle.vhdx_header.specs.declared.Answer.{Answer as HeaderAnswer}
 use Rattle.vhdx_header.specs.declared.Answer.TheVariants.{Refused as HeaderRefused, Current}
-use Rattle.vhdx_header.specs.Current.{currentHeader, otherSlot}
-use Rattle.vhdx_log.specs.Work.{sectorsPlanned}
-use Rattle.vhdx_steps.specs.Steps.{File, lengthAfter, Ran, steps}
+use Rattle.vhdx_header.specs.Current.{current_header, other_slot}
+use Rattle.vhdx_log.specs.Work.{sectors_planned}
+use Rattle.vhdx_steps.specs.Steps.{File, length_after, Ran, steps}
 use Rattle.vhdx_steps.specs.Failures.{Lost, Reopened}
-use Rattle.vhdx_close_steps.specs.Close.{slotIn, closePlan}
+use Rattle.vhdx_close_steps.specs.Close.{slot_in, close_plan}
 use Rattle.vhdx_close_steps.specs.Calls.{WholeIfValid, Call}
 
 -- the slot of the header that isn't current in f is in g as it was
 abbrev pub SlotKeptBy : HeaderAnswer → File → File → Type 0
 SlotKeptBy (HeaderRefused c) f g = Unit {0}
-SlotKeptBy (Current h) f g = slotIn g (otherSlot h.slot) ≡ slotIn f (otherSlot h.slot)
+SlotKeptBy (Current h) f g = slot_in g (other_slot h.slot) ≡ slot_in f (other_slot h.slot)
 
 abbrev pub SlotKept : File → File → Type 0
-SlotKept f g = SlotKeptBy (currentHeader f.buffer f.size) f g
+SlotKept f g = SlotKeptBy (current_header f.buffer f.size) f g
 
 -- what a power failure may leave of f, whichever call was on the way and however far it had come
 pub data Failed (identifier : List ℕ) (f g : File) : Type 0 where
   -- before that flush: any of the sectors torn, and the header's slot as it was
-  sectors-lost : Lost (lengthAfter (closePlan identifier f) f.size) (sectorsPlanned (closePlan identifier f)) f g → SlotKept f g → Failed identifier f g
+  sectors-lost : Lost (length_after (close_plan identifier f) f.size) (sectors_planned (close_plan identifier f)) f g → SlotKept f g → Failed identifier f g
   -- after it: all sectors whole, and the slot as it was, torn, which is not valid then, or as it will be. So a close leaves it that is
   -- interrupted at its last step; one that is interrupted before it need not be left out
-  header-lost : Ran (steps (closePlan identifier f)) f g → WholeIfValid identifier f g → Failed identifier f g
+  header-lost : Ran (steps (close_plan identifier f)) f g → WholeIfValid identifier f g → Failed identifier f g
 
 -- of a file that came as o, was d when it was last flushed, and is f now, where step e is next in order
 pub data History (identifier : List ℕ) (o : File) : File → ℕ → File → Type 0 where

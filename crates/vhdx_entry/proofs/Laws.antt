@@ -12,9 +12,9 @@ use native.Mathlib.Omega.{arith}
 use lib.ListN.{length, take, drop, length-drop, length-append}
 use lib.Seq.{length-take-le, take-take, drop-drop, take-append-le, drop-append-le, drop-append-add, take-add}
 use Rattle.field.specs.Fields.{le, field}
-use Rattle.vhdx_entry.specs.Ring.{ring, sectorAt, offsetIn, On}
+use Rattle.vhdx_entry.specs.Ring.{ring, sector_at, offset_in, On}
 use Rattle.vhdx_entry.specs.declared.ring.RingPos.{RingPos}
-use Rattle.vhdx_entry.specs.Entry.{dataBefore, isData, descriptor}
+use Rattle.vhdx_entry.specs.Entry.{data_before, is_data_descriptor, descriptor}
 
 -- once round: a sector of the second lap is the same sector of the first
 pub mod-round : (n s c : ℕ) → s < n → c ≡ s + n → c % n ≡ s
@@ -32,17 +32,17 @@ unfolding field
 field_in s at m j w h =
     ap le (within-take w j m (drop at s) h ∙ ap (take w) (drop-drop j at s))
 
-pub field-of-sector : (s : List ℕ) (k j w : ℕ) → j + w ≤ 4096 → field (sectorAt s k) j w ≡ field s (k * 4096 + j) w
-unfolding sectorAt
+pub field-of-sector : (s : List ℕ) (k j w : ℕ) → j + w ≤ 4096 → field (sector_at s k) j w ≡ field s (k * 4096 + j) w
+unfolding sector_at
 field-of-sector s k j w h = field_in s (k * 4096) 4096 j w h
 
 -- the first sectors and the next
-pub sector-next : (r : List ℕ) (k : ℕ) → take ((k + 1) * 4096) r ≡ take (k * 4096) r ++ sectorAt r k
-unfolding sectorAt
+pub sector-next : (r : List ℕ) (k : ℕ) → take ((k + 1) * 4096) r ≡ take (k * 4096) r ++ sector_at r k
+unfolding sector_at
 sector-next r k = ap (λ (n : ℕ). take n r) {x = (k + 1) * 4096} {y = k * 4096 + 4096} (omega arith) ∙ take-add (k * 4096) 4096 r
 
-pub data-more : (r : List ℕ) (i : ℕ) → dataBefore r (i + 1) ≡ dataBefore r i + cond (isData (descriptor r i)) 1 0
-unfolding dataBefore
+pub data-more : (r : List ℕ) (i : ℕ) → data_before r (i + 1) ≡ data_before r i + cond (is_data_descriptor (descriptor r i)) 1 0
+unfolding data_before
 data-more r i = rw (add-one i)
 
 module _ (log : List ℕ) (n s : ℕ) (whole : length log ≡ n * 4096) (here : s < n) where
@@ -55,8 +55,8 @@ module _ (log : List ℕ) (n s : ℕ) (whole : length log ≡ n * 4096) (here : 
       length-append (drop (s * 4096) log) (take (s * 4096) log)
       ∙ omega (arith, length_rest, length-take-le (s * 4096) log (omega arith))
 
-  before-end : (k : ℕ) → s + k < n → sectorAt (ring log s) k ≡ sectorAt log (s + k)
-  unfolding ring sectorAt
+  before-end : (k : ℕ) → s + k < n → sector_at (ring log s) k ≡ sector_at log (s + k)
+  unfolding ring sector_at
   before-end k b =
       let e = length_rest in
       let f : length (drop (k * 4096) (drop (s * 4096) log)) ≡ length (drop (s * 4096) log) - k * 4096 = length-drop (k * 4096) (drop (s * 4096) log) in
@@ -66,8 +66,8 @@ module _ (log : List ℕ) (n s : ℕ) (whole : length log ≡ n * 4096) (here : 
       ∙ take-append-le 4096 (drop (k * 4096) (drop (s * 4096) log)) (take (s * 4096) log) p
       ∙ ap (take 4096) (drop-drop (k * 4096) (s * 4096) log ∙ ap (λ (x : ℕ). drop x log) q)
 
-  after-end : (k : ℕ) → k < n → n ≤ s + k → sectorAt (ring log s) k ≡ sectorAt log (s + k - n)
-  unfolding ring sectorAt
+  after-end : (k : ℕ) → k < n → n ≤ s + k → sector_at (ring log s) k ≡ sector_at log (s + k - n)
+  unfolding ring sector_at
   after-end k b c =
       let e = length_rest in
       let q : k * 4096 ≡ length (drop (s * 4096) log) + (s + k - n) * 4096 = omega arith in
@@ -76,41 +76,41 @@ module _ (log : List ℕ) (n s : ℕ) (whole : length log ≡ n * 4096) (here : 
       ∙ drop-append-add (drop (s * 4096) log) (take (s * 4096) log) ((s + k - n) * 4096))
       ∙ within-take 4096 ((s + k - n) * 4096) (s * 4096) log (omega arith)
 
-  pub sector-on : (k : ℕ) → k < n → sectorAt (ring log s) k ≡ sectorAt log ((s + k) % n)
+  pub sector-on : (k : ℕ) → k < n → sector_at (ring log s) k ≡ sector_at log ((s + k) % n)
   sector-on k b = go (dec_lt (s + k) n)
     where
-      go : Dec (s + k < n) → sectorAt (ring log s) k ≡ sectorAt log ((s + k) % n)
-      go (yes c) = before-end k c ∙ ap (sectorAt log) (sym (mod-eq_of_lt c))
-      go (no c) = after-end k b (omega arith) ∙ ap (sectorAt log) (sym (mod-round n (s + k - n) (s + k) (omega arith) (omega arith)))
+      go : Dec (s + k < n) → sector_at (ring log s) k ≡ sector_at log ((s + k) % n)
+      go (yes c) = before-end k c ∙ ap (sector_at log) (sym (mod-eq_of_lt c))
+      go (no c) = after-end k b (omega arith) ∙ ap (sector_at log) (sym (mod-round n (s + k - n) (s + k) (omega arith) (omega arith)))
 
-  pub sector-first : take (1 * 4096) (ring log s) ≡ sectorAt log s
-  unfolding sectorAt
+  pub sector-first : take (1 * 4096) (ring log s) ≡ sector_at log s
+  unfolding sector_at
   sector-first =
-      sector-on 0 (omega arith) ∙ ap (sectorAt log) (ap (λ (x : ℕ). x % n) {x = s + 0} (omega arith) ∙ mod-eq_of_lt here)
+      sector-on 0 (omega arith) ∙ ap (sector_at log) (ap (λ (x : ℕ). x % n) {x = s + 0} (omega arith) ∙ mod-eq_of_lt here)
 
   -- a field of the entry's sector k
-  pub ring-field : (k j w : ℕ) → k < n → j + w ≤ 4096 → field (ring log s) (k * 4096 + j) w ≡ field (sectorAt log ((s + k) % n)) j w
+  pub ring-field : (k j w : ℕ) → k < n → j + w ≤ 4096 → field (ring log s) (k * 4096 + j) w ≡ field (sector_at log ((s + k) % n)) j w
   ring-field k j w b h =
       sym (field-of-sector (ring log s) k j w h) ∙ ap (λ (x : List ℕ). field x j w) (sector-on k b)
 
   -- a field of the entry's header
-  pub first_field : (j w : ℕ) → j + w ≤ 4096 → field (ring log s) j w ≡ field (sectorAt log s) j w
+  pub first_field : (j w : ℕ) → j + w ≤ 4096 → field (ring log s) j w ≡ field (sector_at log s) j w
   first_field j w h =
       ap (λ (x : ℕ). field (ring log s) x w) {x = j} {y = 0 * 4096 + j} (omega arith)
       ∙ ring-field 0 j w (omega arith) h
-      ∙ ap (λ (x : ℕ). field (sectorAt log x) j w) (ap (λ (x : ℕ). x % n) {x = s + 0} (omega arith) ∙ mod-eq_of_lt here)
+      ∙ ap (λ (x : ℕ). field (sector_at log x) j w) (ap (λ (x : ℕ). x % n) {x = s + 0} (omega arith) ∙ mod-eq_of_lt here)
 
   -- a run of bytes that lies in one sector of the entry, as a descriptor does
-  ring-part : (k j w : ℕ) → k < n → j + w ≤ 4096 → take w (drop (k * 4096 + j) (ring log s)) ≡ take w (drop j (sectorAt log ((s + k) % n)))
-  unfolding sectorAt
+  ring-part : (k j w : ℕ) → k < n → j + w ≤ 4096 → take w (drop (k * 4096 + j) (ring log s)) ≡ take w (drop j (sector_at log ((s + k) % n)))
+  unfolding sector_at
   ring-part k j w b h =
       sym (within-take w j 4096 (drop (k * 4096) (ring log s)) h ∙ ap (take w) (drop-drop j (k * 4096) (ring log s)))
       ∙ ap (λ (x : List ℕ). take w (drop j x)) (sector-on k b)
 
 -- bytes of the ring that lie in one sector, read off the log where they stand
 pub ring-bytes : (log : List ℕ) (p : RingPos) (m w : ℕ) → On log p → m < length log → m % 4096 + w ≤ 4096
-    → take w (drop (offsetIn p m) log) ≡ take w (drop m (ring log p.at))
-unfolding sectorAt
+    → take w (drop (offset_in p m) log) ≡ take w (drop m (ring log p.at))
+unfolding sector_at
 ring-bytes log p m w on b h =
     let k = m / 4096 in
     let j = m % 4096 in
@@ -121,5 +121,5 @@ ring-bytes log p m w on b h =
     ∙ ap (λ (n : ℕ). take w (drop n (ring log p.at))) same
 
 -- a field of a sector that was read at the entry's start
-pub in-first : (log : List ℕ) (n s : ℕ) {h : List ℕ} → (s < n) × (length log ≡ n * 4096) → h ≡ sectorAt log s → (j w : ℕ) → j + w ≤ 4096 → field h j w ≡ field (ring log s) j w
+pub in-first : (log : List ℕ) (n s : ℕ) {h : List ℕ} → (s < n) × (length log ≡ n * 4096) → h ≡ sector_at log s → (j w : ℕ) → j + w ≤ 4096 → field h j w ≡ field (ring log s) j w
 in-first log n s on e j w b = ap (λ (x : List ℕ). field x j w) e ∙ sym (first_field log n s on.1 on.0 j w b)

@@ -3,8 +3,8 @@
 ghost use Rattle.std.specs.Prelude.{◌≡◌, cond, ◌&&◌, ◌+◌, ◌*◌, ◌≤◌, ◌<◌, length, take};
 ghost use Rattle.decision.specs.Bounded.{every, only_if};
 ghost use Rattle.crc32c.specs.Crc.{crc, zeroed};
-ghost use Rattle.vhdx_entry.specs.Ring.{sectorSize, ring as ringOf, sectorAt, On};
-ghost use Rattle.vhdx_entry.specs.Entry.{descriptor as descriptorOf, descriptorStart, isData, descriptorCount, sequenceNumber, dataBefore, size as size_of, descriptorRule, descriptorsRule, dataSectorRule, dataSectorsRule, fitsRule, entryLengthRule, checksumRule, tally_of};
+ghost use Rattle.vhdx_entry.specs.Ring.{log_sector_size, ring as ring_of, sector_at, On};
+ghost use Rattle.vhdx_entry.specs.Entry.{descriptor as descriptor_of, descriptor_start, is_data_descriptor, descriptor_count, sequence_number_of, data_before, size as size_of, descriptor_rule, descriptors_rule, data_sector_rule, data_sectors_rule, fits_rule, entry_length_rule, checksum_rule, tally_of};
 
 use crate::ring::RingPos;
 use crate::{descriptor, header, ring};
@@ -18,8 +18,8 @@ pub enum Tally {
 
 // How many of the first count descriptors are data descriptors, if all keep their rule.
 fn data_descriptors(log: &[u8], pos: RingPos, number: u64, count: usize) -> Tally
-    requires { On log.now pos × (descriptorStart count ≤ length log.now) × (count < 4294967296) }
-    ensures { tally_of result ≡ only_if (every count (λ i. descriptorRule number (descriptorOf (ringOf log.now pos.at) i))) (dataBefore (ringOf log.now pos.at) count) }
+    requires { On log.now pos × (descriptor_start count ≤ length log.now) × (count < 4294967296) }
+    ensures { tally_of result ≡ only_if (every count (λ i. descriptor_rule number (descriptor_of (ring_of log.now pos.at) i))) (data_before (ring_of log.now pos.at) count) }
 {
     let mut found: usize = 0;
     let mut i: usize = 0;
@@ -37,7 +37,7 @@ fn data_descriptors(log: &[u8], pos: RingPos, number: u64, count: usize) -> Tall
 // One more where the descriptor is a data descriptor.
 pub fn counted(d: &[u8], so_far: usize) -> usize
     requires { (length d.now ≡ 32) × (so_far < 4294967296) }
-    ensures { result ≡ so_far + cond (isData d.now) 1 0 }
+    ensures { result ≡ so_far + cond (is_data_descriptor d.now) 1 0 }
 {
     if descriptor::is_data(d) {
         so_far + 1
@@ -48,8 +48,8 @@ pub fn counted(d: &[u8], so_far: usize) -> usize
 
 // The length in sectors of an entry with count descriptors, if they keep their rule and it fits the log.
 pub fn size(log: &[u8], pos: RingPos, number: u64, count: usize) -> Tally
-    requires { On log.now pos × (number ≡ sequenceNumber (ringOf log.now pos.at)) × (count ≡ descriptorCount (ringOf log.now pos.at)) × (count < 4294967296) }
-    ensures { tally_of result ≡ only_if (fitsRule (ringOf log.now pos.at) && descriptorsRule (ringOf log.now pos.at)) (size_of (ringOf log.now pos.at)) }
+    requires { On log.now pos × (number ≡ sequence_number_of (ring_of log.now pos.at)) × (count ≡ descriptor_count (ring_of log.now pos.at)) × (count < 4294967296) }
+    ensures { tally_of result ≡ only_if (fits_rule (ring_of log.now pos.at) && descriptors_rule (ring_of log.now pos.at)) (size_of (ring_of log.now pos.at)) }
 {
     let front = descriptor::sectors(count);
     if pos.len < front {
@@ -70,7 +70,7 @@ pub fn size(log: &[u8], pos: RingPos, number: u64, count: usize) -> Tally
 // The count sectors of an entry from its sector number `from` on are data sectors of this sequence number.
 fn data_sectors(log: &[u8], pos: RingPos, number: u64, from: usize, count: usize) -> bool
     requires { On log.now pos × (from + count ≤ pos.len) }
-    ensures { result ≡ every count (λ k. dataSectorRule number (sectorAt (ringOf log.now pos.at) (from + k))) }
+    ensures { result ≡ every count (λ k. data_sector_rule number (sector_at (ring_of log.now pos.at) (from + k))) }
 {
     let mut k: usize = 0;
     while k < count {
@@ -88,7 +88,7 @@ const DATA: u32 = 0x61746164;
 
 pub fn is_data_sector(s: &[u8], number: u64) -> bool
     requires { length s.now ≡ 4096 }
-    ensures { result ≡ dataSectorRule number s.now }
+    ensures { result ≡ data_sector_rule number s.now }
 {
     let high = field::u32_at(s, 4) as u64;
     let low = field::u32_at(s, 4092) as u64;
@@ -98,7 +98,7 @@ pub fn is_data_sector(s: &[u8], number: u64) -> bool
 // The checksum of an entry of so many sectors, its own field taken as zero.
 fn checksum(log: &[u8], pos: RingPos, sectors: usize) -> u32
     requires { On log.now pos × (1 ≤ sectors) × (sectors ≤ pos.len) }
-    ensures { result ≡ crc (zeroed (take (sectors * sectorSize) (ringOf log.now pos.at)) 4) }
+    ensures { result ≡ crc (zeroed (take (sectors * log_sector_size) (ring_of log.now pos.at)) 4) }
 {
     let mut state = crc32c::start_zeroed(ring::sector(log, pos), 4);
     let mut k: usize = 1;
@@ -111,8 +111,8 @@ fn checksum(log: &[u8], pos: RingPos, sectors: usize) -> u32
 
 // EntryLength, data sectors and checksum of an entry that has this size.
 pub fn ends_well(log: &[u8], pos: RingPos, number: u64, count: usize, size: usize) -> bool
-    requires { On log.now pos × (number ≡ sequenceNumber (ringOf log.now pos.at)) × (count ≡ descriptorCount (ringOf log.now pos.at)) × (count < 4294967296) × (size ≡ size_of (ringOf log.now pos.at)) × (size ≤ pos.len) }
-    ensures { result ≡ (entryLengthRule (ringOf log.now pos.at) && (dataSectorsRule (ringOf log.now pos.at) && checksumRule (ringOf log.now pos.at))) }
+    requires { On log.now pos × (number ≡ sequence_number_of (ring_of log.now pos.at)) × (count ≡ descriptor_count (ring_of log.now pos.at)) × (count < 4294967296) × (size ≡ size_of (ring_of log.now pos.at)) × (size ≤ pos.len) }
+    ensures { result ≡ (entry_length_rule (ring_of log.now pos.at) && (data_sectors_rule (ring_of log.now pos.at) && checksum_rule (ring_of log.now pos.at))) }
 {
     let h = ring::sector(log, pos);
     let front = descriptor::sectors(count);

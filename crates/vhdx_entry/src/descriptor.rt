@@ -1,14 +1,14 @@
 // A descriptor: where it stands in its entry, and what its 32 bytes say.
 ghost use Rattle.std.specs.Prelude.{◌≡◌, ◌+◌, ◌≤◌, ◌<◌, length};
-ghost use Rattle.vhdx_entry.specs.Ring.{ring as ringOf, On};
-ghost use Rattle.vhdx_entry.specs.Entry.{descriptor as descriptorOf, descriptorStart, descriptorSectors, isData, zeroLength, fileOffset, descriptorRule};
+ghost use Rattle.vhdx_entry.specs.Ring.{ring as ring_of, On};
+ghost use Rattle.vhdx_entry.specs.Entry.{descriptor as descriptor_of, descriptor_start, descriptor_sectors, is_data_descriptor, zero_length, file_offset, descriptor_rule};
 
 use crate::ring::RingPos;
 
 // Descriptor i of the entry at a position.
 pub fn at(log: &[u8], pos: RingPos, i: usize) -> &[u8]
-    requires { On log.now pos × (descriptorStart (i + 1) ≤ length log.now) }
-    ensures result_value { result.now ≡ descriptorOf (ringOf log.now pos.at) i }
+    requires { On log.now pos × (descriptor_start (i + 1) ≤ length log.now) }
+    ensures result_value { result.now ≡ descriptor_of (ring_of log.now pos.at) i }
     ensures result_len { length result.now ≡ 32 }
 {
     let from = pos.offset(64 + 32 * i);
@@ -19,7 +19,7 @@ pub fn at(log: &[u8], pos: RingPos, i: usize) -> &[u8]
 // The sectors that an entry's header and count descriptors take.
 pub fn sectors(count: usize) -> usize
     requires { count < 4294967296 }
-    ensures { result ≡ descriptorSectors count }
+    ensures { result ≡ descriptor_sectors count }
 {
     (64 + 32 * count + 4095) / 4096
 }
@@ -31,21 +31,21 @@ const ZERO: u32 = 0x6f72657a;
 
 pub fn is_data(d: &[u8]) -> bool
     requires { length d.now ≡ 32 }
-    ensures { result ≡ isData d.now }
+    ensures { result ≡ is_data_descriptor d.now }
 {
     field::u32_at(d, 0) == DESC
 }
 
 pub fn zero_length(d: &[u8]) -> u64
     requires { length d.now ≡ 32 }
-    ensures { result ≡ zeroLength d.now }
+    ensures { result ≡ zero_length d.now }
 {
     field::u64_at(d, 8)
 }
 
 pub fn file_offset(d: &[u8]) -> u64
     requires { length d.now ≡ 32 }
-    ensures { result ≡ fileOffset d.now }
+    ensures { result ≡ file_offset d.now }
 {
     field::u64_at(d, 16)
 }
@@ -53,7 +53,7 @@ pub fn file_offset(d: &[u8]) -> u64
 // Of an entry with this sequence number.
 pub fn keeps_rule(d: &[u8], number: u64) -> bool
     requires { length d.now ≡ 32 }
-    ensures { result ≡ descriptorRule number d.now }
+    ensures { result ≡ descriptor_rule number d.now }
 {
     let data = is_data(d);
     let zero = field::u32_at(d, 0) == ZERO;

@@ -1,6 +1,6 @@
 // An entry's header, given as the sector that it starts.
 ghost use Rattle.std.specs.Prelude.{◌≡◌, ◌/◌, ◌<◌, length};
-ghost use Rattle.vhdx_entry.specs.Entry.{signatureRule, checksum as checksumOf, entryLength, sequenceNumber, descriptorCount, tail as tailOf, flushedFileOffset, lastFileOffset, headerRule};
+ghost use Rattle.vhdx_entry.specs.Entry.{signature_rule, checksum as checksum_of, entry_length, sequence_number_of, descriptor_count, tail as tail_of, flushed_file_offset, last_file_offset, header_rule};
 
 // "loge" as a little-endian number.
 const LOGE: u32 = 0x65676f6c;
@@ -8,21 +8,21 @@ const LOGE: u32 = 0x65676f6c;
 // The sector begins "loge".
 pub fn is_marked(h: &[u8]) -> bool
     requires { length h.now ≡ 4096 }
-    ensures { result ≡ signatureRule h.now }
+    ensures { result ≡ signature_rule h.now }
 {
     field::u32_at(h, 0) == LOGE
 }
 
 pub fn checksum(h: &[u8]) -> u32
     requires { length h.now ≡ 4096 }
-    ensures { result ≡ checksumOf h.now }
+    ensures { result ≡ checksum_of h.now }
 {
     field::u32_at(h, 4)
 }
 
 pub fn entry_length(h: &[u8]) -> usize
     requires { length h.now ≡ 4096 }
-    ensures { result ≡ entryLength h.now }
+    ensures { result ≡ entry_length h.now }
 {
     field::u32_at(h, 8) as usize
 }
@@ -30,21 +30,21 @@ pub fn entry_length(h: &[u8]) -> usize
 // The Tail, in sectors.
 pub fn tail(h: &[u8]) -> usize
     requires { length h.now ≡ 4096 }
-    ensures { result ≡ tailOf h.now / 4096 }
+    ensures { result ≡ tail_of h.now / 4096 }
 {
     (field::u32_at(h, 12) as usize) / 4096
 }
 
 pub fn sequence_number(h: &[u8]) -> u64
     requires { length h.now ≡ 4096 }
-    ensures { result ≡ sequenceNumber h.now }
+    ensures { result ≡ sequence_number_of h.now }
 {
     field::u64_at(h, 16)
 }
 
 pub fn descriptor_count(h: &[u8]) -> usize
     requires { length h.now ≡ 4096 }
-    ensures value { result ≡ descriptorCount h.now }
+    ensures value { result ≡ descriptor_count h.now }
     ensures upper_bound { result < 4294967296 }
 {
     field::u32_at(h, 24) as usize
@@ -52,14 +52,14 @@ pub fn descriptor_count(h: &[u8]) -> usize
 
 pub fn flushed_file_offset(h: &[u8]) -> u64
     requires { length h.now ≡ 4096 }
-    ensures { result ≡ flushedFileOffset h.now }
+    ensures { result ≡ flushed_file_offset h.now }
 {
     field::u64_at(h, 48)
 }
 
 pub fn last_file_offset(h: &[u8]) -> u64
     requires { length h.now ≡ 4096 }
-    ensures { result ≡ lastFileOffset h.now }
+    ensures { result ≡ last_file_offset h.now }
 {
     field::u64_at(h, 56)
 }
@@ -67,7 +67,7 @@ pub fn last_file_offset(h: &[u8]) -> u64
 // Of an entry in a log of this length, of the image whose log has this identifier.
 pub fn keeps_rules(h: &[u8], guid: field::Guid, log_length: usize) -> bool
     requires { length h.now ≡ 4096 }
-    ensures { result ≡ headerRule guid log_length h.now }
+    ensures { result ≡ header_rule guid log_length h.now }
 {
     let tail = field::u32_at(h, 12) as usize;
     is_marked(h)

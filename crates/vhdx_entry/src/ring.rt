@@ -1,6 +1,6 @@
 // The log's ring, in sectors of 4,096 bytes. A position never leaves the ring, and a sector never straddles its end.
 ghost use Rattle.std.specs.Prelude.{◌≡◌, ◌+◌, ◌*◌, ◌%◌, ◌^◌, ◌≤◌, ◌<◌, length};
-ghost use Rattle.vhdx_entry.specs.Ring.{sectorAt, advanced, offsetIn, On};
+ghost use Rattle.vhdx_entry.specs.Ring.{sector_at, advanced, offset_in, On};
 
 pub const SECTOR: usize = 4096;
 
@@ -33,7 +33,7 @@ impl RingPos {
     // Where in the log byte n of what starts at the position stands: the rest of its sector is in the log too.
     pub fn offset(self, n: usize) -> usize
         requires { (self.at < self.len) × (n < self.len * 4096) × (self.len * 4096 < 2 ^ 64) }
-        ensures value { result ≡ offsetIn self n }
+        ensures value { result ≡ offset_in self n }
         ensures result_bound { result + 4096 ≤ self.len * 4096 + n % 4096 }
     {
         self.advance(n / SECTOR).at * SECTOR + n % SECTOR
@@ -42,7 +42,7 @@ impl RingPos {
 
 pub fn sector(log: &[u8], pos: RingPos) -> &[u8]
     requires { On log.now pos }
-    ensures result_value { result.now ≡ sectorAt log.now pos.at }
+    ensures result_value { result.now ≡ sector_at log.now pos.at }
     ensures result_len { length result.now ≡ 4096 }
 {
     let start = pos.at * SECTOR;

@@ -6,13 +6,13 @@ use mathlib.Core.Logic.{⊎_elim}
 use Prim.Native.Nat.{ℕ, ◌+◌, ◌-◌, ◌*◌, ◌/◌, ◌^◌, ◌≤◌}
 use native.Mathlib.Nat.{div-eq_of_eq-mul_left, div-eq_of_lt-le, div-div-eq-div-mul, mul-div-mul_right, add-mul-div_right, mul-add-div_right, div-add-mod', add-mul, mul_comm, mul_assoc}
 use native.Mathlib.Omega.{arith}
-use Rattle.vhdx_facts.specs.Ranges.{sizesRule}
-use Rattle.vhdx_facts.specs.Geometry.{roundedUp, ratio, blocks, chunks}
+use Rattle.vhdx_facts.specs.Ranges.{sizes_rule}
+use Rattle.vhdx_facts.specs.Geometry.{rounded_up, ratio, blocks, chunks}
 use Rattle.vhdx_facts.specs.declared.Facts.{Facts}
 use Rattle.vhdx_facts.proofs.Laws.{sizes, counts}
 
 -- rounding up twice is rounding up once
-rounded-twice : (d b r : ℕ) → 1 ≤ b → 1 ≤ r → roundedUp (roundedUp d b) r ≡ (d + (b * r - 1)) / (b * r)
+rounded-twice : (d b r : ℕ) → 1 ≤ b → 1 ≤ r → rounded_up (rounded_up d b) r ≡ (d + (b * r - 1)) / (b * r)
 rounded-twice d b r p q =
     let one_less : r * b ≡ (r - 1) * b + 1 * b = ap (λ (x : ℕ). x * b) {x = r} {y = r - 1 + 1} (omega arith) ∙ add-mul (r - 1) 1 b in
     let sum : d + (b - 1) + (r - 1) * b ≡ d + (b * r - 1) = omega (arith, one_less, mul_comm b r) in
@@ -21,7 +21,7 @@ rounded-twice d b r p q =
     ∙ ap (λ (x : ℕ). x / (b * r)) sum
 
 -- whole sectors of l bytes, 2^23 of them a chunk
-by-sectors : (q l : ℕ) → 1 ≤ l → (q * l + (2 ^ 23 * l - 1)) / (2 ^ 23 * l) ≡ roundedUp q (2 ^ 23)
+by-sectors : (q l : ℕ) → 1 ≤ l → (q * l + (2 ^ 23 * l - 1)) / (2 ^ 23 * l) ≡ rounded_up q (2 ^ 23)
 by-sectors q l p =
     let y = 2 ^ 23 * l - 1 in
     let last : y / l ≡ 2 ^ 23 - 1 = div-eq_of_lt-le {k = 2 ^ 23 - 1} l {m = y} (omega arith) (omega arith) in
@@ -29,14 +29,14 @@ by-sectors q l p =
     ∙ sym (div-div-eq-div-mul (q * l + y) l (2 ^ 23))
     ∙ ap (λ (x : ℕ). x / 2 ^ 23) (mul-add-div_right {m = l} p q y ∙ ap (λ (x : ℕ). q + x) last)
 
-module _ (f : Facts) (h : sizesRule f ≡ true) where
+module _ (f : Facts) (h : sizes_rule f ≡ true) where
   -- a block size divides 2^32, and the bytes of 2^23 sectors are a multiple of that
   scaled : (c : ℕ) → 2 ^ 23 * f.logical_sector_size ≡ c * 2 ^ 32 → f.block_size * ratio f ≡ 2 ^ 23 * f.logical_sector_size
   unfolding ratio
   scaled c e =
       let b = f.block_size in
       let q = 2 ^ 32 / b in
-      let whole : 2 ^ 32 ≡ q * b = omega (arith, div-add-mod' (2 ^ 32) b, (sizes f h).block-divides) in
+      let whole : 2 ^ 32 ≡ q * b = omega (arith, div-add-mod' (2 ^ 32) b, (sizes f h).block_divides) in
       let product : 2 ^ 23 * f.logical_sector_size ≡ c * q * b = e ∙ ap (λ (x : ℕ). c * x) whole ∙ sym (mul_assoc c q b) in
       ap (λ (x : ℕ). b * x) (div-eq_of_eq-mul_left {n = b} (omega (arith, sizes f h)) product) ∙ mul_comm b (c * q) ∙ sym product
 
@@ -50,7 +50,7 @@ module _ (f : Facts) (h : sizesRule f ≡ true) where
       ∙ ap (λ (x : ℕ). s * f.logical_sector_size / x) chunk_bytes
       ∙ mul-div-mul_right {m = f.logical_sector_size} s (2 ^ 23) (omega (arith, sizes f h))
 
-  pub chunks-of-sectors : chunks f ≡ roundedUp (f.disk_size / f.logical_sector_size) (2 ^ 23)
+  pub chunks-of-sectors : chunks f ≡ rounded_up (f.disk_size / f.logical_sector_size) (2 ^ 23)
   unfolding chunks blocks
   chunks-of-sectors =
       let z = sizes f h in

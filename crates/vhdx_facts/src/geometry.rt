@@ -1,7 +1,7 @@
 // The layout of the block allocation table, of facts whose sizes are in their ranges.
 ghost use Rattle.std.specs.Prelude.{true, ◌≡◌, ◌/◌, ◌^◌, ◌≤◌, ◌<◌};
-ghost use Rattle.vhdx_facts.specs.Ranges.{sizesRule};
-ghost use Rattle.vhdx_facts.specs.Geometry.{ratio as ratioOf, chunks as chunks_of, neededEntries, batRule, bitmapEntry};
+ghost use Rattle.vhdx_facts.specs.Ranges.{sizes_rule};
+ghost use Rattle.vhdx_facts.specs.Geometry.{ratio as ratio_of, chunks as chunks_of, needed_entries, bat_rule, bitmap_entry};
 
 use crate::{Facts, ranges};
 
@@ -10,7 +10,7 @@ pub const SECTORS_IN_CHUNK: u64 = 8388608;
 
 // How many sectors the disk has. As in `ranges`, the divisors are written out.
 pub fn sectors(facts: Facts) -> u64
-    requires { sizesRule facts ≡ true }
+    requires { sizes_rule facts ≡ true }
     ensures { result ≡ facts.disk_size / facts.logical_sector_size }
 {
     if facts.logical_sector_size == 512 {
@@ -21,31 +21,31 @@ pub fn sectors(facts: Facts) -> u64
 }
 
 pub fn ratio(facts: Facts) -> u64
-    requires { sizesRule facts ≡ true }
-    ensures { result ≡ ratioOf facts }
+    requires { sizes_rule facts ≡ true }
+    ensures { result ≡ ratio_of facts }
 {
     (SECTORS_IN_CHUNK * facts.logical_sector_size) >> ranges::block_shift(facts.block_size)
 }
 
 // A chunk is 2^23 sectors, whatever the sizes are.
 pub fn chunks(facts: Facts) -> u64
-    requires { sizesRule facts ≡ true }
+    requires { sizes_rule facts ≡ true }
     ensures { result ≡ chunks_of facts }
 {
     (sectors(facts) + (SECTORS_IN_CHUNK - 1)) / SECTORS_IN_CHUNK
 }
 
 pub fn needed_entries(facts: Facts) -> u64
-    requires { sizesRule facts ≡ true }
-    ensures { result ≡ neededEntries facts }
+    requires { sizes_rule facts ≡ true }
+    ensures { result ≡ needed_entries facts }
 {
     chunks(facts) * (ratio(facts) + 1)
 }
 
 // The BAT region is long enough.
 pub fn bat_keeps_rule(facts: Facts) -> bool
-    requires { sizesRule facts ≡ true }
-    ensures { result ≡ batRule facts }
+    requires { sizes_rule facts ≡ true }
+    ensures { result ≡ bat_rule facts }
 {
     let bat = facts.bat;
     needed_entries(facts) * 8 <= bat.length
@@ -54,7 +54,7 @@ pub fn bat_keeps_rule(facts: Facts) -> bool
 // The number of the entry of chunk c's sector bitmap. A ratio is at most 2^15.
 pub fn bitmap_entry(ratio: u64, c: u64) -> u64
     requires { (ratio ≤ 2 ^ 15) × (c < 2 ^ 32) }
-    ensures { result ≡ bitmapEntry ratio c }
+    ensures { result ≡ bitmap_entry ratio c }
 {
     c * (ratio + 1) + ratio
 }

@@ -4,7 +4,7 @@ pub mod geometry;
 pub mod ranges;
 
 ghost use Rattle.std.specs.Prelude.{◌≡◌};
-ghost use Rattle.vhdx_facts.specs.Ranges.{noFacts};
+ghost use Rattle.vhdx_facts.specs.Ranges.{no_facts};
 
 use extent::Extent;
 
@@ -26,7 +26,7 @@ pub struct Facts {
 
 // What is answered with a refusal.
 pub fn none() -> Facts
-    ensures { result ≡ noFacts }
+    ensures { result ≡ no_facts }
 {
     Facts {
         logical_sector_size: 0,

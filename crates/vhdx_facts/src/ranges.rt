@@ -1,6 +1,6 @@
 // The ranges of sizes.
-ghost use Rattle.std.specs.Prelude.{true, ◌≡◌, ◌%◌, ◌^◌, ◌<◌, eqb, ltb};
-ghost use Rattle.vhdx_facts.specs.Ranges.{sectorSizeRule, blockSizeRule, diskSizeRule, sizesRule};
+ghost use Rattle.std.specs.Prelude.{true, ◌≡◌, ◌%◌, ◌^◌, ◌<◌, nat_eq, nat_lt};
+ghost use Rattle.vhdx_facts.specs.Ranges.{sector_size_rule, block_size_rule, disk_size_rule, sizes_rule};
 
 use crate::Facts;
 
@@ -8,21 +8,21 @@ use crate::Facts;
 const DISK_SIZE_LIMIT: u64 = 70368744177664;
 
 pub fn is_sector_size(n: u64) -> bool
-    ensures { result ≡ sectorSizeRule n }
+    ensures { result ≡ sector_size_rule n }
 {
     (n == 512) | (n == 4096)
 }
 
 pub fn is_block_size(n: u64) -> bool
-    ensures { result ≡ blockSizeRule n }
+    ensures { result ≡ block_size_rule n }
 {
     0 < block_shift(n)
 }
 
 // The binary logarithm of a block size, so that a shift divides by it; 0 of any other number.
 pub fn block_shift(n: u64) -> u8
-    ensures result_value { ltb 0 result ≡ blockSizeRule n }
-    ensures result_value_2 { blockSizeRule n ≡ true → 2 ^ result ≡ n }
+    ensures result_value { nat_lt 0 result ≡ block_size_rule n }
+    ensures result_value_2 { block_size_rule n ≡ true → 2 ^ result ≡ n }
     ensures upper_bound { result < 64 }
 {
     match n {
@@ -40,8 +40,8 @@ pub fn block_shift(n: u64) -> u8
 }
 
 pub fn is_disk_size(sector_size: u64, n: u64) -> bool
-    requires { sectorSizeRule sector_size ≡ true }
-    ensures { result ≡ diskSizeRule sector_size n }
+    requires { sector_size_rule sector_size ≡ true }
+    ensures { result ≡ disk_size_rule sector_size n }
 {
     is_whole_sectors(sector_size, n) & ((sector_size <= n) & (n <= DISK_SIZE_LIMIT))
 }
@@ -49,8 +49,8 @@ pub fn is_disk_size(sector_size: u64, n: u64) -> bool
 // Both divisors are written out: this is asked at every lookup, and a division by a number that is not known when the code is
 // compiled is slow.
 fn is_whole_sectors(sector_size: u64, n: u64) -> bool
-    requires { sectorSizeRule sector_size ≡ true }
-    ensures { result ≡ eqb (n % sector_size) 0 }
+    requires { sector_size_rule sector_size ≡ true }
+    ensures { result ≡ nat_eq (n % sector_size) 0 }
 {
     if sector_size == 512 {
         n % 512 == 0
@@ -61,7 +61,7 @@ fn is_whole_sectors(sector_size: u64, n: u64) -> bool
 
 // All four sizes are in their ranges. The sector size comes first: no remainder by 0 is formed.
 pub fn sizes_keep_rules(facts: Facts) -> bool
-    ensures { result ≡ sizesRule facts }
+    ensures { result ≡ sizes_rule facts }
 {
     if !is_sector_size(facts.logical_sector_size) {
         return false;

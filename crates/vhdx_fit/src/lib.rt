@@ -1,13 +1,13 @@
 // Whether facts that a caller hands in fit the image that comes with them: document 01's refusal 16.
 ghost use Rattle.std.specs.Prelude.{◌≡◌};
-ghost use Rattle.vhdx_fit.specs.Fit.{regionsFit, locatorFits, parentFits, factsFit, fits as fitsRule};
+ghost use Rattle.vhdx_fit.specs.Fit.{regions_fit, locator_fits, parent_fits, facts_fit, fits as fits_rule};
 
 use extent::Extent;
 use vhdx_facts::{Facts, geometry, ranges};
 
 // With an image of this length in a buffer of this capacity.
 pub fn fits(facts: Facts, capacity: u64, length: u64) -> bool
-    ensures { result ≡ fitsRule capacity length facts }
+    ensures { result ≡ fits_rule capacity length facts }
 {
     if capacity < length {
         return false;
@@ -17,7 +17,7 @@ pub fn fits(facts: Facts, capacity: u64, length: u64) -> bool
 
 // The sizes come first: nothing is divided before they are in their ranges.
 fn facts_fit(facts: Facts, length: u64) -> bool
-    ensures { result ≡ factsFit length facts }
+    ensures { result ≡ facts_fit length facts }
 {
     if !ranges::sizes_keep_rules(facts) {
         return false;
@@ -26,7 +26,7 @@ fn facts_fit(facts: Facts, length: u64) -> bool
 }
 
 fn regions_fit(facts: Facts, length: u64) -> bool
-    ensures { result ≡ regionsFit length facts }
+    ensures { result ≡ regions_fit length facts }
 {
     let bat = facts.bat;
     let metadata = facts.metadata;
@@ -37,7 +37,7 @@ fn regions_fit(facts: Facts, length: u64) -> bool
 }
 
 fn parent_fits(facts: Facts) -> bool
-    ensures { result ≡ parentFits facts }
+    ensures { result ≡ parent_fits facts }
 {
     if facts.has_parent {
         locator_fits(facts)
@@ -48,7 +48,7 @@ fn parent_fits(facts: Facts) -> bool
 
 // Where the locator lies; its bytes are not read.
 fn locator_fits(facts: Facts) -> bool
-    ensures { result ≡ locatorFits facts }
+    ensures { result ≡ locator_fits facts }
 {
     let metadata = facts.metadata;
     let locator = facts.locator;

@@ -12,30 +12,30 @@ use lib.Seq.{length-take-le}
 use borrow.Author.Tests.{eqb-true, leb-true, le-leb}
 use Rattle.decision.specs.Refusal.{check}
 use Rattle.field.specs.Fields.{starts}
-use Rattle.extent.specs.Extent.{MiB}
-use Rattle.vhdx_header.specs.Header.{versionRule, logVersionRule, logOffsetRule, logLengthRule, logStartRule, logLimit, logLimitRule, fieldRules, insideRule, contents}
-use Rattle.vhdx_header.specs.Current.{vhdxfile, slot1, slot2, header_at, currentSlot, readHeader, read_slot, readFirstMiB, withinImage, firstMiB, currentHeader, slotOffset, currentOffset}
+use Rattle.extent.specs.Extent.{mib}
+use Rattle.vhdx_header.specs.Header.{version_rule, log_version_rule, log_offset_rule, log_length_rule, log_start_rule, log_limit, log_limit_rule, field_rules, inside_rule, contents}
+use Rattle.vhdx_header.specs.Current.{vhdxfile, slot1, slot2, header_at, current_slot, read_header, read_slot, read_first_mib, within_image, first_mib, current_header, slot_offset, current_offset}
 use Rattle.vhdx_header.specs.declared.Header.{Header}
 use Rattle.vhdx_header.specs.declared.Answer.{Answer}
 use Rattle.vhdx_header.specs.declared.Answer.TheVariants.{Refused, Current}
 use Rattle.vhdx_header.specs.declared.choice.Slot.{Slot}
 use Rattle.vhdx_header.specs.declared.choice.Slot.TheVariants.{Neither, First, Second}
 
-pub length-first : (b : List ℕ) → MiB ≤ length b → length (firstMiB b) ≡ MiB
-unfolding firstMiB
-length-first b h = length-take-le MiB b h
+pub length-first : (b : List ℕ) → mib ≤ length b → length (first_mib b) ≡ mib
+unfolding first_mib
+length-first b h = length-take-le mib b h
 
 -- what the rules of refusal 4 say of an answered header
 pub record Placed (h : Header) : Type 0 where
-  pub offset-whole : h.log_offset % MiB ≡ 0
-  pub length_whole : h.log_length % MiB ≡ 0
-  pub start : MiB ≤ h.log_offset
-  pub limit : h.log_length ≤ logLimit
+  pub offset_whole : h.log_offset % mib ≡ 0
+  pub length_whole : h.log_length % mib ≡ 0
+  pub start : mib ≤ h.log_offset
+  pub limit : h.log_length ≤ log_limit
 
 -- what is known where a header is answered
 pub record Accepted (b : List ℕ) (n : ℕ) (h : Header) : Type 0 where
   pub fits : n ≤ length b
-  pub holds-first : MiB ≤ n
+  pub holds_first : mib ≤ n
   pub placed : Placed h
   pub inside : h.log_offset + h.log_length ≤ n
 
@@ -47,19 +47,19 @@ passed false c a e = let z : ◌≡◌ {A = ℕ} 0 1 = cc in absurd (omega arith
 and-true : (a b : Bool) → (a && b) ≡ true → (a ≡ true) × (b ≡ true)
 and-true a b = (and-eq-true_iff a b).0
 
-placed_by : (at : ℕ) (bytes : List ℕ) {h : Header} → readHeader at bytes ≡ Current h → Placed h
-unfolding readHeader fieldRules
+placed_by : (at : ℕ) (bytes : List ℕ) {h : Header} → read_header at bytes ≡ Current h → Placed h
+unfolding read_header field_rules
 placed_by at bytes {h} e =
-    let p = passed (fieldRules bytes) 4 (Current (contents at bytes)) e in
-    let r₁ = and-true (versionRule bytes) _ p.0 in
-    let r₂ = and-true (logVersionRule bytes) _ r₁.1 in
-    let r₃ = and-true (logOffsetRule bytes) _ r₂.1 in
-    let r₄ = and-true (logLengthRule bytes) _ r₃.1 in
-    let r₅ = and-true (logStartRule bytes) (logLimitRule bytes) r₄.1 in
+    let p = passed (field_rules bytes) 4 (Current (contents at bytes)) e in
+    let r₁ = and-true (version_rule bytes) _ p.0 in
+    let r₂ = and-true (log_version_rule bytes) _ r₁.1 in
+    let r₃ = and-true (log_offset_rule bytes) _ r₂.1 in
+    let r₄ = and-true (log_length_rule bytes) _ r₃.1 in
+    let r₅ = and-true (log_start_rule bytes) (log_limit_rule bytes) r₄.1 in
     let same : contents at bytes ≡ h = cc p.1 in
     subst Placed same
     (record {
-      offset-whole = eqb-true _ _ r₃.0;
+      offset_whole = eqb-true _ _ r₃.0;
       length_whole = eqb-true _ _ r₄.0;
       start = leb-true _ _ r₅.0;
       limit = leb-true _ _ r₅.1;
@@ -70,53 +70,53 @@ placed-slot Neither m e = let z : ◌≡◌ {A = ℕ} 0 1 = cc in absurd (omega 
 placed-slot First m e = placed_by slot1 (header_at m slot1) e
 placed-slot Second m e = placed_by slot2 (header_at m slot2) e
 
-placed_first : (m : List ℕ) {h : Header} → readFirstMiB m ≡ Current h → Placed h
-unfolding readFirstMiB
-placed_first m e = placed-slot (currentSlot m) m (passed (starts m vhdxfile) 2 (read_slot (currentSlot m) m) e).1
+placed_first : (m : List ℕ) {h : Header} → read_first_mib m ≡ Current h → Placed h
+unfolding read_first_mib
+placed_first m e = placed-slot (current_slot m) m (passed (starts m vhdxfile) 2 (read_slot (current_slot m) m) e).1
 
-within : (n : ℕ) (a : Answer) {h : Header} → withinImage n a ≡ Current h → (a ≡ Current h) × (insideRule h n ≡ true)
+within : (n : ℕ) (a : Answer) {h : Header} → within_image n a ≡ Current h → (a ≡ Current h) × (inside_rule h n ≡ true)
 within n (Refused c) e = let z : ◌≡◌ {A = ℕ} 0 1 = cc in absurd (omega arith)
 within n (Current k) {h} e =
-    let p = passed (insideRule k n) 4 (Current k) e in
+    let p = passed (inside_rule k n) 4 (Current k) e in
     let same : k ≡ h = cc p.1 in
-    (p.1, subst (λ (x : Header). insideRule x n ≡ true) same p.0)
+    (p.1, subst (λ (x : Header). inside_rule x n ≡ true) same p.0)
 
-module _ (b : List ℕ) (n : ℕ) {h : Header} (e : currentHeader b n ≡ Current h) where
-  pub tests : ((leb n (length b) ≡ true) × (leb MiB n ≡ true)) × ((readFirstMiB (firstMiB b) ≡ Current h) × (insideRule h n ≡ true))
-  unfolding currentHeader
+module _ (b : List ℕ) (n : ℕ) {h : Header} (e : current_header b n ≡ Current h) where
+  pub tests : ((leb n (length b) ≡ true) × (leb mib n ≡ true)) × ((read_first_mib (first_mib b) ≡ Current h) × (inside_rule h n ≡ true))
+  unfolding current_header
   tests =
-      let p = passed (leb n (length b) && leb MiB n) 1 (withinImage n (readFirstMiB (firstMiB b))) e in
-      (and-true (leb n (length b)) (leb MiB n) p.0, within n (readFirstMiB (firstMiB b)) p.1)
+      let p = passed (leb n (length b) && leb mib n) 1 (within_image n (read_first_mib (first_mib b))) e in
+      (and-true (leb n (length b)) (leb mib n) p.0, within n (read_first_mib (first_mib b)) p.1)
 
   pub accepted : Accepted b n h
   accepted =
       record {
         fits = leb-true _ _ tests.0.0;
-        holds-first = leb-true _ _ tests.0.1;
-        placed = placed_first (firstMiB b) tests.1.0;
+        holds_first = leb-true _ _ tests.0.1;
+        placed = placed_first (first_mib b) tests.1.0;
         inside = leb-true _ _ tests.1.1;
       }
 
   -- it is read again off any buffer with the same first MiB, at any length from n to the buffer's
-  pub read_again : (b' : List ℕ) (n' : ℕ) → firstMiB b' ≡ firstMiB b → n ≤ n' → n' ≤ length b' → currentHeader b' n' ≡ Current h
-  unfolding currentHeader
+  pub read_again : (b' : List ℕ) (n' : ℕ) → first_mib b' ≡ first_mib b → n ≤ n' → n' ≤ length b' → current_header b' n' ≡ Current h
+  unfolding current_header
   read_again b' n' same longer fits =
       let a = accepted in
       let i : h.log_offset + h.log_length ≤ n' = omega (arith, a.inside) in
-      let f : MiB ≤ n' = omega (arith, a.holds-first) in
-      simp (le-leb n' (length b') fits, le-leb MiB n' f, same, tests.1.0, le-leb (h.log_offset + h.log_length) n' i)
+      let f : mib ≤ n' = omega (arith, a.holds_first) in
+      simp (le-leb n' (length b') fits, le-leb mib n' f, same, tests.1.0, le-leb (h.log_offset + h.log_length) n' i)
 
 -- ---- what is read of the first MiB, by where the current header stands
 
-abbrev pub readAt : Option ℕ → List ℕ → Answer
-readAt none m = Refused 3
-readAt (some at) m = readHeader at (header_at m at)
+abbrev pub read_at : Option ℕ → List ℕ → Answer
+read_at none m = Refused 3
+read_at (some at) m = read_header at (header_at m at)
 
-pub by-offset : (m : List ℕ) → readFirstMiB m ≡ check (starts m vhdxfile) (Refused 2) (readAt (currentOffset m) m)
-unfolding readFirstMiB currentOffset
-by-offset m = ap (check (starts m vhdxfile) (Refused 2)) (go (currentSlot m))
+pub by-offset : (m : List ℕ) → read_first_mib m ≡ check (starts m vhdxfile) (Refused 2) (read_at (current_offset m) m)
+unfolding read_first_mib current_offset
+by-offset m = ap (check (starts m vhdxfile) (Refused 2)) (go (current_slot m))
   where
-    go : (s : Slot) → read_slot s m ≡ readAt (slotOffset s) m
+    go : (s : Slot) → read_slot s m ≡ read_at (slot_offset s) m
     go Neither = refl
     go First = refl
     go Second = refl

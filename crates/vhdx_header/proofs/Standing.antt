@@ -12,9 +12,9 @@ use lib.ListN.{length}
 use borrow.Author.Tests.{ltb-true, lt-ltb, le-ltb, le-leb}
 use Rattle.decision.specs.Refusal.{check}
 use Rattle.field.specs.Fields.{starts}
-use Rattle.extent.specs.Extent.{MiB}
-use Rattle.vhdx_header.specs.Header.{sequenceNumber, validHeader, fieldRules, contents}
-use Rattle.vhdx_header.specs.Current.{vhdxfile, slot1, slot2, header_at, chosenSlot, currentSlot, readHeader, read_slot, readFirstMiB, firstMiB, currentHeader, otherSlot}
+use Rattle.extent.specs.Extent.{mib}
+use Rattle.vhdx_header.specs.Header.{sequence_number_of, valid_header, field_rules, contents}
+use Rattle.vhdx_header.specs.Current.{vhdxfile, slot1, slot2, header_at, chosen_slot, current_slot, read_header, read_slot, read_first_mib, first_mib, current_header, other_slot}
 use Rattle.vhdx_header.specs.declared.Header.{Header}
 use Rattle.vhdx_header.specs.declared.Answer.TheVariants.{Refused, Current}
 use Rattle.vhdx_header.specs.declared.choice.Slot.{Slot}
@@ -23,27 +23,27 @@ use Rattle.vhdx_header.proofs.Laws.{passed, tests}
 
 -- the one at a rules over the one at b
 pub record Rules (m : List ℕ) (a b : ℕ) : Type 0 where
-  pub valid : validHeader (header_at m a) ≡ true
-  pub greater : validHeader (header_at m b) ≡ true → sequenceNumber (header_at m b) < sequenceNumber (header_at m a)
+  pub valid : valid_header (header_at m a) ≡ true
+  pub greater : valid_header (header_at m b) ≡ true → sequence_number_of (header_at m b) < sequence_number_of (header_at m a)
 
 abbrev pub Slots : ℕ → ℕ → Type 0
 Slots a b = ((a ≡ slot1) × (b ≡ slot2)) ⊎ ((a ≡ slot2) × (b ≡ slot1))
 
 -- ---- the choice
 
-chosen-first : (v w : Bool) (a b : ℕ) → v ≡ true → (w ≡ true → b < a) → chosenSlot v w a b ≡ First
+chosen-first : (v w : Bool) (a b : ℕ) → v ≡ true → (w ≡ true → b < a) → chosen_slot v w a b ≡ First
 chosen-first true true a b p g = rw (lt-ltb b a (g refl))
 chosen-first true false a b p g = refl
 chosen-first false w a b p g = let z : ◌≡◌ {A = ℕ} 0 1 = cc in absurd (omega arith)
 
-chosen-second : (v w : Bool) (a b : ℕ) → w ≡ true → (v ≡ true → a < b) → chosenSlot v w a b ≡ Second
+chosen-second : (v w : Bool) (a b : ℕ) → w ≡ true → (v ≡ true → a < b) → chosen_slot v w a b ≡ Second
 chosen-second true true a b p g =
     let l : a < b = g refl in
     rw (le-ltb b a (omega arith), lt-ltb a b l)
 chosen-second false true a b p g = refl
 chosen-second v false a b p g = let z : ◌≡◌ {A = ℕ} 0 1 = cc in absurd (omega arith)
 
-of-first : (v w : Bool) (a b : ℕ) → chosenSlot v w a b ≡ First → (v ≡ true) × (w ≡ true → b < a)
+of-first : (v w : Bool) (a b : ℕ) → chosen_slot v w a b ≡ First → (v ≡ true) × (w ≡ true → b < a)
 of-first true true a b e = (refl, λ x. go (ltb b a) refl e)
   where
     go : (t : Bool) → ltb b a ≡ t → cond t First (cond (ltb a b) Second Neither) ≡ First → b < a
@@ -57,7 +57,7 @@ of-first true false a b e = (refl, λ x. let z : ◌≡◌ {A = ℕ} 0 1 = cc in
 of-first false true a b e = let z : ◌≡◌ {A = ℕ} 0 1 = cc in absurd (omega arith)
 of-first false false a b e = let z : ◌≡◌ {A = ℕ} 0 1 = cc in absurd (omega arith)
 
-of-second : (v w : Bool) (a b : ℕ) → chosenSlot v w a b ≡ Second → (w ≡ true) × (v ≡ true → a < b)
+of-second : (v w : Bool) (a b : ℕ) → chosen_slot v w a b ≡ Second → (w ≡ true) × (v ≡ true → a < b)
 of-second true true a b e = (refl, λ x. go (ltb b a) (ltb a b) refl e)
   where
     go : (s t : Bool) → ltb a b ≡ t → cond s First (cond t Second Neither) ≡ Second → a < b
@@ -72,54 +72,54 @@ of-second false false a b e = let z : ◌≡◌ {A = ℕ} 0 1 = cc in absurd (om
 
 pub record Standing (m : List ℕ) (h : Header) : Type 0 where
   pub begins : starts m vhdxfile ≡ true
-  pub slots : Slots h.slot (otherSlot h.slot)
-  pub rules : Rules m h.slot (otherSlot h.slot)
-  pub keeps : fieldRules (header_at m h.slot) ≡ true
+  pub slots : Slots h.slot (other_slot h.slot)
+  pub rules : Rules m h.slot (other_slot h.slot)
+  pub keeps : field_rules (header_at m h.slot) ≡ true
   pub same : contents h.slot (header_at m h.slot) ≡ h
 
-by-slot : (m : List ℕ) (h : Header) (s : Slot) → starts m vhdxfile ≡ true → currentSlot m ≡ s → read_slot s m ≡ Current h → Standing m h
-unfolding currentSlot readHeader
+by-slot : (m : List ℕ) (h : Header) (s : Slot) → starts m vhdxfile ≡ true → current_slot m ≡ s → read_slot s m ≡ Current h → Standing m h
+unfolding current_slot read_header
 by-slot m h Neither b k e = let z : ◌≡◌ {A = ℕ} 0 1 = cc in absurd (omega arith)
 by-slot m h First b k e =
-    let p = passed (fieldRules (header_at m slot1)) 4 (Current (contents slot1 (header_at m slot1))) e in
+    let p = passed (field_rules (header_at m slot1)) 4 (Current (contents slot1 (header_at m slot1))) e in
     let is : contents slot1 (header_at m slot1) ≡ h = cc p.1 in
-    let r = of-first (validHeader (header_at m slot1)) (validHeader (header_at m slot2)) (sequenceNumber (header_at m slot1)) (sequenceNumber (header_at m slot2)) k in
+    let r = of-first (valid_header (header_at m slot1)) (valid_header (header_at m slot2)) (sequence_number_of (header_at m slot1)) (sequence_number_of (header_at m slot2)) k in
     subst (Standing m) is record { begins = b; slots = inl (refl, refl); rules = record { valid = r.0; greater = r.1 }; keeps = p.0; same = refl }
 by-slot m h Second b k e =
-    let p = passed (fieldRules (header_at m slot2)) 4 (Current (contents slot2 (header_at m slot2))) e in
+    let p = passed (field_rules (header_at m slot2)) 4 (Current (contents slot2 (header_at m slot2))) e in
     let is : contents slot2 (header_at m slot2) ≡ h = cc p.1 in
-    let r = of-second (validHeader (header_at m slot1)) (validHeader (header_at m slot2)) (sequenceNumber (header_at m slot1)) (sequenceNumber (header_at m slot2)) k in
+    let r = of-second (valid_header (header_at m slot1)) (valid_header (header_at m slot2)) (sequence_number_of (header_at m slot1)) (sequence_number_of (header_at m slot2)) k in
     subst (Standing m) is record { begins = b; slots = inr (refl, refl); rules = record { valid = r.0; greater = r.1 }; keeps = p.0; same = refl }
 
-pub standing : (b : List ℕ) (n : ℕ) {h : Header} → currentHeader b n ≡ Current h → Standing (firstMiB b) h
-unfolding readFirstMiB
+pub standing : (b : List ℕ) (n : ℕ) {h : Header} → current_header b n ≡ Current h → Standing (first_mib b) h
+unfolding read_first_mib
 standing b n {h} e =
-    let m = firstMiB b in
-    let p = passed (starts m vhdxfile) 2 (read_slot (currentSlot m) m) (tests b n e).1.0 in
-    by-slot m h (currentSlot m) p.0 refl p.1
+    let m = first_mib b in
+    let p = passed (starts m vhdxfile) 2 (read_slot (current_slot m) m) (tests b n e).1.0 in
+    by-slot m h (current_slot m) p.0 refl p.1
 
-read-slot : (m : List ℕ) (a b : ℕ) → Slots a b → Rules m a b → read_slot (currentSlot m) m ≡ readHeader a (header_at m a)
-unfolding currentSlot
+read-slot : (m : List ℕ) (a b : ℕ) → Slots a b → Rules m a b → read_slot (current_slot m) m ≡ read_header a (header_at m a)
+unfolding current_slot
 read-slot m a b s r =
     ⊎_elim
     (λ x.
     let r' : Rules m slot1 slot2 = subst (λ (y : ℕ). Rules m slot1 y) x.1 (subst (λ (y : ℕ). Rules m y b) x.0 r) in
-    ap (λ (t : Slot). read_slot t m) (chosen-first (validHeader (header_at m slot1)) (validHeader (header_at m slot2)) (sequenceNumber (header_at m slot1)) (sequenceNumber (header_at m slot2)) r'.valid r'.greater)
-    ∙ ap (λ (y : ℕ). readHeader y (header_at m y)) (sym x.0))
+    ap (λ (t : Slot). read_slot t m) (chosen-first (valid_header (header_at m slot1)) (valid_header (header_at m slot2)) (sequence_number_of (header_at m slot1)) (sequence_number_of (header_at m slot2)) r'.valid r'.greater)
+    ∙ ap (λ (y : ℕ). read_header y (header_at m y)) (sym x.0))
     (λ x.
     let r' : Rules m slot2 slot1 = subst (λ (y : ℕ). Rules m slot2 y) x.1 (subst (λ (y : ℕ). Rules m y b) x.0 r) in
-    ap (λ (t : Slot). read_slot t m) (chosen-second (validHeader (header_at m slot1)) (validHeader (header_at m slot2)) (sequenceNumber (header_at m slot1)) (sequenceNumber (header_at m slot2)) r'.valid r'.greater)
-    ∙ ap (λ (y : ℕ). readHeader y (header_at m y)) (sym x.0))
+    ap (λ (t : Slot). read_slot t m) (chosen-second (valid_header (header_at m slot1)) (valid_header (header_at m slot2)) (sequence_number_of (header_at m slot1)) (sequence_number_of (header_at m slot2)) r'.valid r'.greater)
+    ∙ ap (λ (y : ℕ). read_header y (header_at m y)) (sym x.0))
     s
 
 -- ---- a header that stands so is current
 
-pub current-by : (b : List ℕ) (n : ℕ) (h : Header) → n ≤ length b → MiB ≤ n → h.log_offset + h.log_length ≤ n → Standing (firstMiB b) h → currentHeader b n ≡ Current h
-unfolding currentHeader readFirstMiB readHeader
+pub current-by : (b : List ℕ) (n : ℕ) (h : Header) → n ≤ length b → mib ≤ n → h.log_offset + h.log_length ≤ n → Standing (first_mib b) h → current_header b n ≡ Current h
+unfolding current_header read_first_mib read_header
 current-by b n h fits first inside s =
-    let m = firstMiB b in
-    let slot : read_slot (currentSlot m) m ≡ Current h =
-    read-slot m h.slot (otherSlot h.slot) s.slots s.rules
+    let m = first_mib b in
+    let slot : read_slot (current_slot m) m ≡ Current h =
+    read-slot m h.slot (other_slot h.slot) s.slots s.rules
     ∙ ap (λ (t : Bool). check t (Refused 4) (Current (contents h.slot (header_at m h.slot)))) s.keeps
     ∙ ap Current s.same in
-    simp (le-leb n (length b) fits, le-leb MiB n first, s.begins, slot, le-leb (h.log_offset + h.log_length) n inside)
+    simp (le-leb n (length b) fits, le-leb mib n first, s.begins, slot, le-leb (h.log_offset + h.log_length) n inside)

@@ -1,7 +1,7 @@
 // What the first MiB says: which header is current, and what it holds.
 ghost use Rattle.std.specs.Prelude.{◌≡◌, ◌+◌, ◌≤◌, length};
-ghost use Rattle.extent.specs.Extent.{MiB};
-ghost use Rattle.vhdx_header.specs.Current.{header_at, chosenSlot, currentSlot, readHeader, read_slot, readFirstMiB};
+ghost use Rattle.extent.specs.Extent.{mib};
+ghost use Rattle.vhdx_header.specs.Current.{header_at, chosen_slot, current_slot, read_header, read_slot, read_first_mib};
 
 use crate::{Answer, fields};
 
@@ -18,8 +18,8 @@ const SLOT1: usize = 65536;
 const SLOT2: usize = 131072;
 
 pub fn read_first_mib(m: &[u8]) -> Answer
-    requires { length m.now ≡ MiB }
-    ensures { result ≡ readFirstMiB m.now }
+    requires { length m.now ≡ mib }
+    ensures { result ≡ read_first_mib m.now }
 {
     if field::bytes_are(m, 0, b"vhdxfile") {
         read_slot(current_slot(m), m)
@@ -29,7 +29,7 @@ pub fn read_first_mib(m: &[u8]) -> Answer
 }
 
 fn read_slot(slot: Slot, m: &[u8]) -> Answer
-    requires { length m.now ≡ MiB }
+    requires { length m.now ≡ mib }
     ensures { result ≡ read_slot slot m.now }
 {
     match slot {
@@ -41,7 +41,7 @@ fn read_slot(slot: Slot, m: &[u8]) -> Answer
 
 fn read_header(at: usize, m: &[u8]) -> Answer
     requires { at + 4096 ≤ length m.now }
-    ensures { result ≡ readHeader at (header_at m.now at) }
+    ensures { result ≡ read_header at (header_at m.now at) }
 {
     let h = header_at(m, at);
     if fields::keep_rules(h) {
@@ -52,8 +52,8 @@ fn read_header(at: usize, m: &[u8]) -> Answer
 }
 
 fn current_slot(m: &[u8]) -> Slot
-    requires { length m.now ≡ MiB }
-    ensures { result ≡ currentSlot m.now }
+    requires { length m.now ≡ mib }
+    ensures { result ≡ current_slot m.now }
 {
     let first = header_at(m, SLOT1);
     let second = header_at(m, SLOT2);
@@ -66,7 +66,7 @@ fn current_slot(m: &[u8]) -> Slot
 }
 
 pub fn chosen_slot(first: bool, second: bool, number1: u64, number2: u64) -> Slot
-    ensures { result ≡ chosenSlot first second number1 number2 }
+    ensures { result ≡ chosen_slot first second number1 number2 }
 {
     if first {
         if second {

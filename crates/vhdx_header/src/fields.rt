@@ -1,6 +1,6 @@
 // One header, given as its 4,096 bytes.
 ghost use Rattle.std.specs.Prelude.{◌≡◌, length};
-ghost use Rattle.vhdx_header.specs.Header.{sequenceNumber, validHeader, fieldRules, contents as contentsOf};
+ghost use Rattle.vhdx_header.specs.Header.{sequence_number_of, valid_header, field_rules, contents as contents_of};
 
 use crate::Header;
 
@@ -23,7 +23,7 @@ const LOG_LIMIT: u64 = 67108864;
 
 pub fn is_valid(h: &[u8]) -> bool
     requires { length h.now ≡ 4096 }
-    ensures { result ≡ validHeader h.now }
+    ensures { result ≡ valid_header h.now }
 {
     field::bytes_are(h, 0, b"head")
         & (field::u32_at(h, CHECKSUM) == crc32c::checksum_zeroed(h, CHECKSUM))
@@ -31,7 +31,7 @@ pub fn is_valid(h: &[u8]) -> bool
 
 pub fn sequence_number(h: &[u8]) -> u64
     requires { length h.now ≡ 4096 }
-    ensures { result ≡ sequenceNumber h.now }
+    ensures { result ≡ sequence_number_of h.now }
 {
     field::u64_at(h, SEQUENCE_NUMBER)
 }
@@ -39,7 +39,7 @@ pub fn sequence_number(h: &[u8]) -> u64
 // Whether the fields keep the rules that they alone decide.
 pub fn keep_rules(h: &[u8]) -> bool
     requires { length h.now ≡ 4096 }
-    ensures { result ≡ fieldRules h.now }
+    ensures { result ≡ field_rules h.now }
 {
     let no_log = field::guid_is(h, LOG_GUID, field::Guid { low: 0, high: 0 });
     let log_version = field::u16_at(h, LOG_VERSION);
@@ -54,7 +54,7 @@ pub fn keep_rules(h: &[u8]) -> bool
 
 pub fn contents(slot: u64, h: &[u8]) -> Header
     requires { length h.now ≡ 4096 }
-    ensures { result ≡ contentsOf slot h.now }
+    ensures { result ≡ contents_of slot h.now }
 {
     let log_guid = field::guid_at(h, LOG_GUID);
     Header {

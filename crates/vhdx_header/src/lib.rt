@@ -4,7 +4,7 @@ pub mod choice;
 pub mod fields;
 
 ghost use Rattle.std.specs.Prelude.{◌≡◌};
-ghost use Rattle.vhdx_header.specs.Current.{currentHeader, withinImage};
+ghost use Rattle.vhdx_header.specs.Current.{current_header, within_image};
 
 #[derive(Drop)]
 pub struct Header {
@@ -25,7 +25,7 @@ pub enum Answer {
 
 // Of the image that is the first length bytes of the buffer.
 pub fn read(buffer: &[u8], length: u64) -> Answer
-    ensures { result ≡ currentHeader buffer.now length }
+    ensures { result ≡ current_header buffer.now length }
 {
     if (buffer.len() as u64) < length {
         return Answer::Refused(1);
@@ -37,7 +37,7 @@ pub fn read(buffer: &[u8], length: u64) -> Answer
 }
 
 pub fn within_image(length: u64, answer: Answer) -> Answer
-    ensures { result ≡ withinImage length answer }
+    ensures { result ≡ within_image length answer }
 {
     match answer {
         Answer::Refused(number) => Answer::Refused(number),

@@ -1,20 +1,20 @@
 // Entry i of a locator: the offset and the length of its key and of its value.
 ghost use Rattle.std.specs.Prelude.{true, ◌≡◌, ◌+◌, ◌≤◌, length};
 ghost use Rattle.std.proofs.Math.Option.{some};
-ghost use Rattle.vhdx_locator.specs.Locator.{entryStart, keyOffset, keyLength, partRule, entryRule, has_key, value_at};
+ghost use Rattle.vhdx_locator.specs.Locator.{entry_start, key_offset, key_length, part_rule, entry_rule, has_key, value_at};
 
 use extent::Extent;
 
 // A key or a value lies inside the item and is not empty.
 fn part_keeps_rule(item: &[u8], part: Extent) -> bool
-    ensures { result ≡ partRule item.now part.offset part.length }
+    ensures { result ≡ part_rule item.now part.offset part.length }
 {
     (0 < part.length) & extent::is_inside(part.offset, part.length, item.len() as u64)
 }
 
 fn key(item: &[u8], i: usize) -> Extent
-    requires { entryStart (i + 1) ≤ length item.now }
-    ensures { result ≡ record { offset = keyOffset item.now i; length = keyLength item.now i } }
+    requires { entry_start (i + 1) ≤ length item.now }
+    ensures { result ≡ record { offset = key_offset item.now i; length = key_length item.now i } }
 {
     let at = 20 + 12 * i;
     Extent {
@@ -24,7 +24,7 @@ fn key(item: &[u8], i: usize) -> Extent
 }
 
 pub fn value(item: &[u8], i: usize) -> Extent
-    requires { entryStart (i + 1) ≤ length item.now }
+    requires { entry_start (i + 1) ≤ length item.now }
     ensures { result ≡ value_at item.now (some i) }
 {
     let at = 20 + 12 * i;
@@ -35,15 +35,15 @@ pub fn value(item: &[u8], i: usize) -> Extent
 }
 
 pub fn keeps_rule(item: &[u8], i: usize) -> bool
-    requires { entryStart (i + 1) ≤ length item.now }
-    ensures { result ≡ entryRule item.now i }
+    requires { entry_start (i + 1) ≤ length item.now }
+    ensures { result ≡ entry_rule item.now i }
 {
     part_keeps_rule(item, key(item, i)) & part_keeps_rule(item, value(item, i))
 }
 
 // The entry has the key, byte for byte.
 pub fn has_key(item: &[u8], i: usize, key_bytes: &[u8]) -> bool
-    requires { (entryStart (i + 1) ≤ length item.now) × (entryRule item.now i ≡ true) }
+    requires { (entry_start (i + 1) ≤ length item.now) × (entry_rule item.now i ≡ true) }
     ensures { result ≡ has_key item.now key_bytes.now i }
 {
     let own = key(item, i);

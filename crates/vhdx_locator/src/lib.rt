@@ -4,7 +4,7 @@ mod entry;
 
 ghost use Rattle.std.specs.Prelude.{true, ◌≡◌, ◌≤◌, length};
 ghost use Rattle.decision.specs.Bounded.{every, found};
-ghost use Rattle.vhdx_locator.specs.Locator.{vhdxType, entryCount, entryStart, typeRule, entryRule, locatorRule, entry_of, value_of};
+ghost use Rattle.vhdx_locator.specs.Locator.{vhdx_type, entry_count, entry_start, type_rule, entry_rule, locator_rule, entry_of, value_of};
 
 use decision::Index;
 use extent::Extent;
@@ -14,14 +14,14 @@ const VHDX: [u8; 16] = *b"\xb7\xef\x4a\xb0\x9e\xd1\x81\x4a\xb7\x89\x25\xb8\xe9\x
 
 // The type that is understood here.
 fn vhdx() -> [u8; 16]
-    ensures { result ≡ vhdxType }
+    ensures { result ≡ vhdx_type }
 {
     VHDX
 }
 
 fn is_vhdx(item: &[u8]) -> bool
     requires { 20 ≤ length item.now }
-    ensures { result ≡ typeRule item.now }
+    ensures { result ≡ type_rule item.now }
 {
     let kind = vhdx();
     field::guid_is(item, 0, field::guid_at(&kind, 0))
@@ -29,15 +29,15 @@ fn is_vhdx(item: &[u8]) -> bool
 
 fn count(item: &[u8]) -> u16
     requires { 20 ≤ length item.now }
-    ensures { result ≡ entryCount item.now }
+    ensures { result ≡ entry_count item.now }
 {
     field::u16_at(item, 18)
 }
 
 // Every one of the count entries keeps its rule.
 fn entries_keep_rule(item: &[u8], count: usize) -> bool
-    requires { entryStart count ≤ length item.now }
-    ensures { result ≡ every count (λ i. entryRule item.now i) }
+    requires { entry_start count ≤ length item.now }
+    ensures { result ≡ every count (λ i. entry_rule item.now i) }
 {
     let mut i: usize = 0;
     while i < count {
@@ -51,7 +51,7 @@ fn entries_keep_rule(item: &[u8], count: usize) -> bool
 
 // The locator keeps its rule.
 pub fn keeps_rule(item: &[u8]) -> bool
-    ensures { result ≡ locatorRule item.now }
+    ensures { result ≡ locator_rule item.now }
 {
     if item.len() < 20 {
         return false;
@@ -68,7 +68,7 @@ pub fn keeps_rule(item: &[u8]) -> bool
 
 // The first entry with the key, of a locator that keeps its rule.
 fn entry_of(item: &[u8], key: &[u8]) -> Index
-    requires { locatorRule item.now ≡ true }
+    requires { locator_rule item.now ≡ true }
     ensures { found result ≡ entry_of item.now key.now }
 {
     let count = count(item) as usize;

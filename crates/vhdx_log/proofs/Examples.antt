@@ -4,8 +4,8 @@ use mathlib.Core.Path.{◌≡◌, refl}
 use mathlib.Core.List.{List, [], ◌∷◌}
 use Prim.Native.Nat.{ℕ, ◌*◌}
 use Rattle.decision.specs.Examples.{Example, R, Agree}
-use Rattle.extent.specs.Extent.{MiB}
-use Rattle.vhdx_walk.specs.Entries.{Descriptor, zeros, only, zeroSector, sectorsAt}
+use Rattle.extent.specs.Extent.{mib}
+use Rattle.vhdx_walk.specs.Entries.{Descriptor, zeros, only, zero_sector, sectors_at}
 use Rattle.vhdx_log.specs.Work.{Plan, refused, apply, count, work}
 
 -- a plan in figures: the refusal's number or 0, the final length, the count
@@ -17,7 +17,7 @@ figures (apply n ss) = 0 ∷ n ∷ count (apply n ss) ∷ []
 -- descriptor vary
 pub planned : ℕ → ℕ → Descriptor → Plan
 planned capacity flushed d =
-    work (record { offset = MiB; length = MiB }) (only (record { flushed = flushed; last = 4 * MiB; descriptors = d ∷ [] })) (3 * MiB) capacity
+    work (record { offset = mib; length = mib }) (only (record { flushed = flushed; last = 4 * mib; descriptors = d ∷ [] })) (3 * mib) capacity
 
 case : ℕ → ℕ → Descriptor → List ℕ
 case capacity flushed d = figures (planned capacity flushed d)
@@ -33,11 +33,11 @@ examples =
     ∷ []
 
 pub agree : Agree examples
-unfolding examples case planned figures work sectorsAt
+unfolding examples case planned figures work sectors_at
 agree = refl
 
 -- R1 is work that can be done: two sectors of zeros
 pub r1-applies : planned 4194304 3145728 (zeros 3145728 8192)
-    ≡ apply 4194304 (record { offset = 3145728; bytes = zeroSector } ∷ record { offset = 3149824; bytes = zeroSector } ∷ [])
-unfolding planned work sectorsAt
+    ≡ apply 4194304 (record { offset = 3145728; bytes = zero_sector } ∷ record { offset = 3149824; bytes = zero_sector } ∷ [])
+unfolding planned work sectors_at
 r1-applies = refl

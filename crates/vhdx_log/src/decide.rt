@@ -1,9 +1,9 @@
 // What a found sequence asks for, or its refusal: 6 to 8 in this order, each decided over the whole sequence.
-ghost use Rattle.std.specs.Prelude.{◌&&◌, List, [], ◌≡◌, ℕ, leb, length as length_of};
-ghost use Rattle.vhdx_walk.specs.Entries.{lengthLimit};
-ghost use Rattle.vhdx_walk.specs.Bytes.{entriesFrom};
+ghost use Rattle.std.specs.Prelude.{◌&&◌, List, [], ◌≡◌, ℕ, nat_le, length as length_of};
+ghost use Rattle.vhdx_walk.specs.Entries.{length_limit};
+ghost use Rattle.vhdx_walk.specs.Bytes.{entries_from};
 ghost use Rattle.vhdx_walk.specs.Cursor.{Walkable};
-ghost use Rattle.vhdx_log.specs.Work.{work, applyWithin};
+ghost use Rattle.vhdx_log.specs.Work.{work, apply_within};
 ghost use Rattle.vhdx_log.specs.Answers.{Stands};
 
 use crate::{Answer, Work, number, survey};
@@ -18,14 +18,14 @@ const LIMIT: u64 = 140737488355328;
 
 // 8 does not apply.
 pub fn is_within(length: u64, capacity: u64) -> bool
-    ensures { result ≡ (leb length capacity && leb length lengthLimit) }
+    ensures { result ≡ (nat_le length capacity && nat_le length length_limit) }
 {
     (length <= capacity) & (length <= LIMIT)
 }
 
 // Without a log nothing is to write and nothing grows.
 pub fn without_log(length: u64, capacity: u64) -> Answer
-    ensures { (log : List ℕ) → Stands log result (applyWithin capacity length []) }
+    ensures { (log : List ℕ) → Stands log result (apply_within capacity length []) }
 {
     if is_within(length, capacity) {
         Answer::Apply(Work {
@@ -46,7 +46,7 @@ pub fn without_log(length: u64, capacity: u64) -> Answer
 // Of the log that stands at log_offset in the image of this length.
 pub fn sequence(log: &[u8], log_offset: u64, length: u64, capacity: u64, found: Sequence) -> Answer
     requires { Walkable log.now found.start found.more }
-    ensures { Stands log.now result (work (record { offset = log_offset; length = length_of log.now }) (entriesFrom log.now found.start found.more) length capacity) }
+    ensures { Stands log.now result (work (record { offset = log_offset; length = length_of log.now }) (entries_from log.now found.start found.more) length capacity) }
 {
     let first = RingPos {
         at: found.start,

@@ -5,13 +5,13 @@ pub mod number;
 pub mod survey;
 
 ghost use Rattle.std.specs.Prelude.{◌≡◌, ◌*◌, ◌%◌, ◌≤◌, length as length_of};
-ghost use Rattle.extent.specs.Extent.{MiB};
+ghost use Rattle.extent.specs.Extent.{mib};
 ghost use Rattle.vhdx_header.specs.declared.Answer.TheVariants.{Current};
-ghost use Rattle.vhdx_header.specs.Current.{currentHeader};
-ghost use Rattle.vhdx_sequence.specs.Sequence.{activeSequence};
+ghost use Rattle.vhdx_header.specs.Current.{current_header};
+ghost use Rattle.vhdx_sequence.specs.Sequence.{active_sequence};
 ghost use Rattle.vhdx_log.specs.Work.{count};
-ghost use Rattle.vhdx_log.specs.Plan.{logBytes, planSequence, planLog, plan as planFor};
-ghost use Rattle.vhdx_log.specs.Answers.{logOf, plan_of, count_of, ReadyIn, Stands};
+ghost use Rattle.vhdx_log.specs.Plan.{log_bytes, plan_sequence, plan_log, plan as plan_for};
+ghost use Rattle.vhdx_log.specs.Answers.{log_of, plan_of, count_of, ReadyIn, Stands};
 
 use vhdx_sequence::Found;
 use vhdx_walk::cursor::Cursor;
@@ -34,9 +34,9 @@ pub enum Answer {
 
 // Of the image that is the first length bytes of the buffer.
 pub fn plan(buffer: &[u8], length: u64) -> Answer
-    ensures result_value { plan_of buffer.now length result ≡ planFor buffer.now length }
-    ensures result_value_2 { count_of result ≡ count (planFor buffer.now length) }
-    ensures ready_in { ReadyIn (logOf buffer.now length) result }
+    ensures result_value { plan_of buffer.now length result ≡ plan_for buffer.now length }
+    ensures result_value_2 { count_of result ≡ count (plan_for buffer.now length) }
+    ensures ready_in { ReadyIn (log_of buffer.now length) result }
 {
     match vhdx_header::read(buffer, length) {
         vhdx_header::Answer::Refused(number) => Answer::Refused(number),
@@ -45,8 +45,8 @@ pub fn plan(buffer: &[u8], length: u64) -> Answer
 }
 
 fn with_header(buffer: &[u8], length: u64, header: vhdx_header::Header) -> Answer
-    requires { currentHeader buffer.now length ≡ Current header }
-    ensures { Stands (logBytes header buffer.now) result (planLog header (logBytes header buffer.now) length (length_of buffer.now)) }
+    requires { current_header buffer.now length ≡ Current header }
+    ensures { Stands (log_bytes header buffer.now) result (plan_log header (log_bytes header buffer.now) length (length_of buffer.now)) }
 {
     let capacity = buffer.len() as u64;
     let guid = header.log_guid;
@@ -64,7 +64,7 @@ fn with_header(buffer: &[u8], length: u64, header: vhdx_header::Header) -> Answe
 
 // The log's bytes in the buffer; none without a current header.
 pub fn log(buffer: &[u8], length: u64) -> &[u8]
-    ensures { result.now ≡ logOf buffer.now length }
+    ensures { result.now ≡ log_of buffer.now length }
 {
     match vhdx_header::read(buffer, length) {
         vhdx_header::Answer::Refused(_) => &buffer[..0],
@@ -74,8 +74,8 @@ pub fn log(buffer: &[u8], length: u64) -> &[u8]
 
 // The same where this is the current header.
 fn part(buffer: &[u8], length: u64, header: vhdx_header::Header) -> &[u8]
-    requires { currentHeader buffer.now length ≡ Current header }
-    ensures { result.now ≡ logBytes header buffer.now }
+    requires { current_header buffer.now length ≡ Current header }
+    ensures { result.now ≡ log_bytes header buffer.now }
 {
     let start = header.log_offset as usize;
     let end = start + header.log_length as usize;
@@ -84,8 +84,8 @@ fn part(buffer: &[u8], length: u64, header: vhdx_header::Header) -> &[u8]
 
 // Of the log that stands at log_offset in the image of this length, and has an identifier other than zero.
 fn with_log(log: &[u8], guid: field::Guid, log_offset: u64, length: u64, capacity: u64) -> Answer
-    requires { (length_of log.now % MiB ≡ 0) × (length_of log.now ≤ 64 * MiB) }
-    ensures { Stands log.now result (planSequence (record { offset = log_offset; length = length_of log.now }) log.now length capacity (activeSequence log.now guid)) }
+    requires { (length_of log.now % mib ≡ 0) × (length_of log.now ≤ 64 * mib) }
+    ensures { Stands log.now result (plan_sequence (record { offset = log_offset; length = length_of log.now }) log.now length capacity (active_sequence log.now guid)) }
 {
     match vhdx_sequence::active(log, guid) {
         Found::Nothing => Answer::Refused(5),

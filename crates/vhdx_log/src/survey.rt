@@ -1,8 +1,8 @@
 // What a sequence's descriptors say together: what refusals 7 and 8 and the count are decided by. All of them are looked at
 // before anything is decided.
 ghost use Rattle.std.specs.Prelude.{◌≡◌};
-ghost use Rattle.vhdx_walk.specs.Cursor.{descriptorsLeft, Placed};
-ghost use Rattle.vhdx_log.specs.Survey.{surveyOf, added};
+ghost use Rattle.vhdx_walk.specs.Cursor.{descriptors_left, Placed};
+ghost use Rattle.vhdx_log.specs.Survey.{survey_of, added};
 
 use crate::number;
 use vhdx_walk::cursor::{Cursor, Move};
@@ -48,7 +48,7 @@ impl Survey {
 // Of the descriptors that a cursor has before it.
 pub fn all(log: &[u8], cursor: Cursor, log_offset: u64, log_length: u64) -> Survey
     requires { Placed log.now cursor }
-    ensures { result ≡ surveyOf (record { offset = log_offset; length = log_length }) (descriptorsLeft log.now cursor) }
+    ensures { result ≡ survey_of (record { offset = log_offset; length = log_length }) (descriptors_left log.now cursor) }
 {
     let mut found = Survey {
         lies: false,

@@ -1,6 +1,6 @@
 // A BAT entry: its state, and what it stores where.
 ghost use Rattle.std.specs.Prelude.{◌≡◌};
-ghost use Rattle.vhdx_map.specs.Entry.{state, offset_of, meaning, storedRule, bitmapRule};
+ghost use Rattle.vhdx_map.specs.Entry.{state, offset_of, meaning, stored_rule, bitmap_rule};
 
 // What a payload block's entry says of its sectors.
 #[derive(Drop)]
@@ -49,7 +49,7 @@ pub fn offset(entry: u64) -> u64
 
 // What the entry stores, size bytes, lies behind the first MiB and inside an image of this length.
 pub fn is_stored(entry: u64, size: u64, length: u64) -> bool
-    ensures { result ≡ storedRule length size entry }
+    ensures { result ≡ stored_rule length size entry }
 {
     let start = offset(entry);
     (extent::MIB <= start) & extent::is_inside(start, size, length)
@@ -57,7 +57,7 @@ pub fn is_stored(entry: u64, size: u64, length: u64) -> bool
 
 // A bitmap entry names a bitmap in an image of this length.
 pub fn is_bitmap(entry: u64, length: u64) -> bool
-    ensures { result ≡ bitmapRule length entry }
+    ensures { result ≡ bitmap_rule length entry }
 {
     (entry % 8 == 6) & is_stored(entry, extent::MIB, length)
 }

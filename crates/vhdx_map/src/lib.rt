@@ -6,11 +6,11 @@ mod entry;
 mod sector;
 
 ghost use Rattle.std.specs.Prelude.{true, ◌≡◌, ◌+◌, ◌<◌, ◌^◌, length as length_of};
-ghost use Rattle.bitmap.specs.Bitmap.{bit_of, lowestFirst};
-ghost use Rattle.vhdx_facts.specs.Ranges.{sizesRule};
-ghost use Rattle.vhdx_fit.specs.Fit.{factsFit};
-ghost use Rattle.vhdx_map.specs.Entry.{offset_of, bitmapRule};
-ghost use Rattle.vhdx_map.specs.Lookup.{intoBlock, bitNumber, bitmapByte, sectorRule, full, partialIn, inImage, lookup as lookupOf, outcome};
+ghost use Rattle.bitmap.specs.Bitmap.{bit_of, lowest_first};
+ghost use Rattle.vhdx_facts.specs.Ranges.{sizes_rule};
+ghost use Rattle.vhdx_fit.specs.Fit.{facts_fit};
+ghost use Rattle.vhdx_map.specs.Entry.{offset_of, bitmap_rule};
+ghost use Rattle.vhdx_map.specs.Lookup.{into_block, bit_number, bitmap_byte, sector_rule, full, partial_in, in_image_at, lookup as lookup_of, outcome};
 
 use entry::Meaning;
 use extent::Extent;
@@ -30,7 +30,7 @@ pub enum Answer {
 
 // Of sector number `sector` of the image that is the buffer's first `length` bytes.
 pub fn lookup(facts: Facts, buffer: &[u8], length: u64, sector: u64) -> Answer
-    ensures { outcome result ≡ lookupOf facts buffer.now length sector }
+    ensures { outcome result ≡ lookup_of facts buffer.now length sector }
 {
     if !vhdx_fit::fits(facts, buffer.len() as u64, length) {
         return Answer::Refused(16);
@@ -44,8 +44,8 @@ pub fn lookup(facts: Facts, buffer: &[u8], length: u64, sector: u64) -> Answer
 
 // 18 to 20.
 fn in_image(facts: Facts, image: &[u8], sector: u64) -> Answer
-    requires { (factsFit (length_of image.now) facts ≡ true) × (sectorRule facts sector ≡ true) }
-    ensures { outcome result ≡ inImage facts image.now sector }
+    requires { (facts_fit (length_of image.now) facts ≡ true) × (sector_rule facts sector ≡ true) }
+    ensures { outcome result ≡ in_image_at facts image.now sector }
 {
     let e = bat::payload_entry(facts, image, sector);
     match entry::meaning_of(e, facts.has_parent) {
@@ -59,7 +59,7 @@ fn in_image(facts: Facts, image: &[u8], sector: u64) -> Answer
 
 // 19, of a fully present block with entry e, in an image of this length.
 fn fully_present(facts: Facts, length: u64, sector: u64, e: u64) -> Answer
-    requires { (sizesRule facts ≡ true) × (sectorRule facts sector ≡ true) }
+    requires { (sizes_rule facts ≡ true) × (sector_rule facts sector ≡ true) }
     ensures { outcome result ≡ full length facts sector e }
 {
     if entry::is_stored(e, facts.block_size, length) {
@@ -71,8 +71,8 @@ fn fully_present(facts: Facts, length: u64, sector: u64, e: u64) -> Answer
 
 // 19 and 20, of a partially present block with entry e. The bitmap is not looked for before the block is found in the image.
 fn partially_present(facts: Facts, image: &[u8], sector: u64, e: u64) -> Answer
-    requires { (factsFit (length_of image.now) facts ≡ true) × (sectorRule facts sector ≡ true) }
-    ensures { outcome result ≡ partialIn facts image.now sector e }
+    requires { (facts_fit (length_of image.now) facts ≡ true) × (sector_rule facts sector ≡ true) }
+    ensures { outcome result ≡ partial_in facts image.now sector e }
 {
     let length = image.len() as u64;
     if !entry::is_stored(e, facts.block_size, length) {
@@ -91,8 +91,8 @@ fn partially_present(facts: Facts, image: &[u8], sector: u64, e: u64) -> Answer
 
 // The sector's bit in the bitmap of entry b.
 fn bit(image: &[u8], sector: u64, b: u64) -> bool
-    requires { bitmapRule (length_of image.now) b ≡ true }
-    ensures { result ≡ bit_of (bitmapByte image.now b sector) (lowestFirst (bitNumber sector)) }
+    requires { bitmap_rule (length_of image.now) b ≡ true }
+    ensures { result ≡ bit_of (bitmap_byte image.now b sector) (lowest_first (bit_number sector)) }
 {
     let extent = Extent {
         offset: entry::offset(b),
@@ -106,8 +106,8 @@ fn bit(image: &[u8], sector: u64, b: u64) -> bool
 
 // The sector's offset in the file, in the block that entry e stores.
 fn offset(facts: Facts, sector: u64, e: u64) -> u64
-    requires { (sizesRule facts ≡ true) × (sectorRule facts sector ≡ true) × (offset_of e + facts.block_size < 2 ^ 64) }
-    ensures { result ≡ offset_of e + intoBlock facts sector }
+    requires { (sizes_rule facts ≡ true) × (sector_rule facts sector ≡ true) × (offset_of e + facts.block_size < 2 ^ 64) }
+    ensures { result ≡ offset_of e + into_block facts sector }
 {
     entry::offset(e) + sector::into_block(facts, sector)
 }

@@ -5,26 +5,26 @@ use Rattle.std.specs.Prelude.{List, [], ◌∷◌, ℕ, ◌-◌, ◌^◌}
 use Rattle.guid.specs.Stored.{stored}
 
 -- "file parameters 8, disk size 8, logical and physical sector size 4 each, disk identifier 16, parent locator any": the rows
-abbrev pub fileParameters : ℕ
-fileParameters = 0
+abbrev pub file_parameters : ℕ
+file_parameters = 0
 
-abbrev pub diskSize : ℕ
-diskSize = 1
+abbrev pub disk_size_of : ℕ
+disk_size_of = 1
 
-abbrev pub logicalSectorSize : ℕ
-logicalSectorSize = 2
+abbrev pub logical_sector_size_of : ℕ
+logical_sector_size_of = 2
 
-abbrev pub physicalSectorSize : ℕ
-physicalSectorSize = 3
+abbrev pub physical_sector_size_of : ℕ
+physical_sector_size_of = 3
 
-abbrev pub diskIdentifier : ℕ
-diskIdentifier = 4
+abbrev pub disk_identifier : ℕ
+disk_identifier = 4
 
-abbrev pub parentLocator : ℕ
-parentLocator = 5
+abbrev pub parent_locator : ℕ
+parent_locator = 5
 
-unfoldable pub knownItems : List (List ℕ)
-knownItems =
+unfoldable pub known_items : List (List ℕ)
+known_items =
     stored 0xCAA16737 0xFA36 0x4D43 0xB3B6 0x33F0AA44E76B
     ∷ stored 0x2FA54224 0xCD1B 0x4876 0xB211 0x5DBED83BF4B8
     ∷ stored 0x8141BF1D 0xA96F 0x4709 0xBA47 0xF233A8FAAB5F
@@ -34,8 +34,8 @@ knownItems =
     ∷ []
 
 -- stands for "any": no length in a table's four bytes equals it
-abbrev pub anyLength : ℕ
-anyLength = 2 ^ 64 - 1
+abbrev pub any_length : ℕ
+any_length = 2 ^ 64 - 1
 
-unfoldable pub knownLengths : List ℕ
-knownLengths = 8 ∷ 8 ∷ 4 ∷ 4 ∷ 16 ∷ anyLength ∷ []
+unfoldable pub known_lengths : List ℕ
+known_lengths = 8 ∷ 8 ∷ 4 ∷ 4 ∷ 16 ∷ any_length ∷ []

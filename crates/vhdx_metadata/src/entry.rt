@@ -1,8 +1,8 @@
 // One entry of the metadata table, given as its 32 bytes.
 ghost use Rattle.std.specs.Prelude.{◌≡◌, ◌<◌, length as length_of};
-ghost use Rattle.vhdx_metadata.specs.Known.{knownItems};
-ghost use Rattle.vhdx_metadata.specs.Table.{itemExtent, isUser, isRequired, uniqueRule, isKnown, ownRule};
-ghost use Rattle.vhdx_metadata.specs.Items.{isItem};
+ghost use Rattle.vhdx_metadata.specs.Known.{known_items};
+ghost use Rattle.vhdx_metadata.specs.Table.{item_extent, is_user, is_required, unique_rule, is_known, own_rule};
+ghost use Rattle.vhdx_metadata.specs.Items.{is_item};
 
 use crate::location;
 use decision::Index;
@@ -10,7 +10,7 @@ use extent::Extent;
 
 pub fn extent(e: &[u8]) -> Extent
     requires { length_of e.now ≡ 32 }
-    ensures { result ≡ itemExtent e.now }
+    ensures { result ≡ item_extent e.now }
 {
     Extent {
         offset: field::u32_at(e, 16) as u64,
@@ -20,22 +20,22 @@ pub fn extent(e: &[u8]) -> Extent
 
 fn is_user(e: &[u8]) -> bool
     requires { length_of e.now ≡ 32 }
-    ensures { result ≡ isUser e.now }
+    ensures { result ≡ is_user e.now }
 {
     field::u32_at(e, 24) % 2 == 1
 }
 
 fn is_required(e: &[u8]) -> bool
     requires { length_of e.now ≡ 32 }
-    ensures { result ≡ isRequired e.now }
+    ensures { result ≡ is_required e.now }
 {
     field::u32_at(e, 24) / 4 % 2 == 1
 }
 
 // A system item whose identifier is in the table of known ones.
 fn is_known(e: &[u8], known: &[[u8; 16]]) -> bool
-    requires { (length_of e.now ≡ 32) × (known.now ≡ knownItems) }
-    ensures { result ≡ isKnown e.now }
+    requires { (length_of e.now ≡ 32) × (known.now ≡ known_items) }
+    ensures { result ≡ is_known e.now }
 {
     match guid::row(known, field::guid_at(e, 0)) {
         Index::Nothing => false,
@@ -45,16 +45,16 @@ fn is_known(e: &[u8], known: &[[u8; 16]]) -> bool
 
 // The entry of the known item in this row.
 pub fn is_item(e: &[u8], known: &[[u8; 16]], row: usize) -> bool
-    requires { (length_of e.now ≡ 32) × (known.now ≡ knownItems) × (row < 6) }
-    ensures { result ≡ isItem row e.now }
+    requires { (length_of e.now ≡ 32) × (known.now ≡ known_items) × (row < 6) }
+    ensures { result ≡ is_item row e.now }
 {
     !is_user(e) & guid::is_row(known, row, field::guid_at(e, 0))
 }
 
 // The rules that the entry keeps by itself, in a region of this length.
 pub fn keeps_rule(e: &[u8], known: &[[u8; 16]], region_length: u64) -> bool
-    requires { (length_of e.now ≡ 32) × (known.now ≡ knownItems) }
-    ensures { result ≡ ownRule region_length e.now }
+    requires { (length_of e.now ≡ 32) × (known.now ≡ known_items) }
+    ensures { result ≡ own_rule region_length e.now }
 {
     location::keeps_rule(extent(e), region_length) & (is_known(e, known) | !is_required(e))
 }
@@ -62,7 +62,7 @@ pub fn keeps_rule(e: &[u8], known: &[[u8; 16]], region_length: u64) -> bool
 // Two entries differ in identifier or in IsUser.
 pub fn are_distinct(earlier: &[u8], e: &[u8]) -> bool
     requires { (length_of earlier.now ≡ 32) × (length_of e.now ≡ 32) }
-    ensures { result ≡ uniqueRule earlier.now e.now }
+    ensures { result ≡ unique_rule earlier.now e.now }
 {
     let same = field::guid_is(earlier, 0, field::guid_at(e, 0));
     !(same & (field::u32_at(earlier, 24) % 2 == field::u32_at(e, 24) % 2))

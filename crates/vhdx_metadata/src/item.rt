@@ -1,9 +1,9 @@
 // The known items of a region whose table and entries keep their rules.
 ghost use Rattle.std.specs.Prelude.{true, ◌≡◌, ◌≤◌, ◌<◌, length as length_of, get_or};
 ghost use Rattle.decision.specs.Bounded.{every};
-ghost use Rattle.vhdx_metadata.specs.Known.{knownLengths};
-ghost use Rattle.vhdx_metadata.specs.Table.{tableRule, metadataRule};
-ghost use Rattle.vhdx_metadata.specs.Items.{hasItsLength, isThere, extentOf, item_of, hasParent, neededRule};
+ghost use Rattle.vhdx_metadata.specs.Known.{known_lengths};
+ghost use Rattle.vhdx_metadata.specs.Table.{table_rule, metadata_rule};
+ghost use Rattle.vhdx_metadata.specs.Items.{has_its_length, is_there, extent_of, item_of, has_parent_of, needed_rule};
 
 use crate::{entry, known, table};
 use decision::Index;
@@ -12,7 +12,7 @@ use extent::Extent;
 // The length is that of the known item in this row.
 fn has_its_length(row: usize, length: u64) -> bool
     requires { row < 6 }
-    ensures { result ≡ hasItsLength row length }
+    ensures { result ≡ has_its_length row length }
 {
     let lengths = known::lengths();
     (lengths[row] == known::ANY) | (length == lengths[row])
@@ -20,8 +20,8 @@ fn has_its_length(row: usize, length: u64) -> bool
 
 // The known item in this row is there and of its length.
 fn is_there(region: &[u8], row: usize) -> bool
-    requires { (65536 ≤ length_of region.now) × (tableRule region.now ≡ true) × (row < 6) }
-    ensures { result ≡ isThere region.now row }
+    requires { (65536 ≤ length_of region.now) × (table_rule region.now ≡ true) × (row < 6) }
+    ensures { result ≡ is_there region.now row }
 {
     match table::find(region, row) {
         Index::Nothing => false,
@@ -34,8 +34,8 @@ fn is_there(region: &[u8], row: usize) -> bool
 
 // The first five are there, which every disk needs.
 fn five_are_there(region: &[u8]) -> bool
-    requires { (65536 ≤ length_of region.now) × (tableRule region.now ≡ true) }
-    ensures { result ≡ every 5 (isThere region.now) }
+    requires { (65536 ≤ length_of region.now) × (table_rule region.now ≡ true) }
+    ensures { result ≡ every 5 (is_there region.now) }
 {
     let mut row: usize = 0;
     while row < 5 {
@@ -49,8 +49,8 @@ fn five_are_there(region: &[u8]) -> bool
 
 // Where the known item in this row lies.
 pub fn extent(region: &[u8], row: usize) -> Extent
-    requires { (65536 ≤ length_of region.now) × (tableRule region.now ≡ true) × (row < 6) }
-    ensures { result ≡ extentOf region.now row }
+    requires { (65536 ≤ length_of region.now) × (table_rule region.now ≡ true) × (row < 6) }
+    ensures { result ≡ extent_of region.now row }
 {
     match table::find(region, row) {
         Index::Nothing => extent::nowhere(),
@@ -60,24 +60,24 @@ pub fn extent(region: &[u8], row: usize) -> Extent
 
 // The bytes of an item of fixed length that is there.
 pub fn bytes(region: &[u8], row: usize) -> &[u8]
-    requires { (65536 ≤ length_of region.now) × (metadataRule region.now ≡ true) × (row < 5) × (isThere region.now row ≡ true) }
+    requires { (65536 ≤ length_of region.now) × (metadata_rule region.now ≡ true) × (row < 5) × (is_there region.now row ≡ true) }
     ensures result_value { result.now ≡ item_of region.now row }
-    ensures result_value_2 { length_of result.now ≡ get_or knownLengths row 0 }
+    ensures result_value_2 { length_of result.now ≡ get_or known_lengths row 0 }
 {
     extent::part(region, extent(region, row))
 }
 
 pub fn has_parent(region: &[u8]) -> bool
-    requires { (65536 ≤ length_of region.now) × (metadataRule region.now ≡ true) × (isThere region.now 0 ≡ true) }
-    ensures { result ≡ hasParent region.now }
+    requires { (65536 ≤ length_of region.now) × (metadata_rule region.now ≡ true) × (is_there region.now 0 ≡ true) }
+    ensures { result ≡ has_parent_of region.now }
 {
     field::u32_at(bytes(region, known::FILE_PARAMETERS), 4) / 2 % 2 == 1
 }
 
 // 13 does not apply.
 pub fn needed_are_there(region: &[u8]) -> bool
-    requires { (65536 ≤ length_of region.now) × (metadataRule region.now ≡ true) }
-    ensures { result ≡ neededRule region.now }
+    requires { (65536 ≤ length_of region.now) × (metadata_rule region.now ≡ true) }
+    ensures { result ≡ needed_rule region.now }
 {
     if !five_are_there(region) {
         return false;

@@ -1,6 +1,6 @@
 // The six known system identifiers as they are stored, the first three groups reversed, and the lengths of their items.
 ghost use Rattle.std.specs.Prelude.{◌≡◌};
-ghost use Rattle.vhdx_metadata.specs.Known.{knownItems, knownLengths};
+ghost use Rattle.vhdx_metadata.specs.Known.{known_items, known_lengths};
 
 // Rows of the table.
 pub const FILE_PARAMETERS: usize = 0;
@@ -36,13 +36,13 @@ pub const ANY: u64 = 0xffffffffffffffff;
 const LENGTHS: [u64; 6] = [8, 8, 4, 4, 16, ANY];
 
 pub fn identifiers() -> [[u8; 16]; 6]
-    ensures { result ≡ knownItems }
+    ensures { result ≡ known_items }
 {
     IDENTIFIERS
 }
 
 pub fn lengths() -> [u64; 6]
-    ensures { result ≡ knownLengths }
+    ensures { result ≡ known_lengths }
 {
     LENGTHS
 }

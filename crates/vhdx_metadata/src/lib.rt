@@ -8,9 +8,9 @@ pub mod location;
 mod table;
 
 ghost use Rattle.std.specs.Prelude.{true, ◌≡◌, ◌%◌, length as length_of};
-ghost use Rattle.extent.specs.Extent.{MiB};
-ghost use Rattle.vhdx_metadata.specs.Table.{metadataRule};
-ghost use Rattle.vhdx_metadata.specs.Items.{neededRule, contents as contentsOf, items, outcome};
+ghost use Rattle.extent.specs.Extent.{mib};
+ghost use Rattle.vhdx_metadata.specs.Table.{metadata_rule};
+ghost use Rattle.vhdx_metadata.specs.Items.{needed_rule, contents as contents_of, items, outcome};
 
 use extent::Extent;
 
@@ -35,7 +35,7 @@ pub enum Answer {
 
 // Of a metadata region, whose length is a multiple of 1 MiB.
 pub fn read(region: &[u8]) -> Answer
-    requires { length_of region.now % MiB ≡ 0 }
+    requires { length_of region.now % mib ≡ 0 }
     ensures { outcome result ≡ items region.now }
 {
     if !table::keeps_rules(region) {
@@ -48,8 +48,8 @@ pub fn read(region: &[u8]) -> Answer
 }
 
 fn contents(region: &[u8]) -> Items
-    requires { (length_of region.now % MiB ≡ 0) × (metadataRule region.now ≡ true) × (neededRule region.now ≡ true) }
-    ensures { result ≡ contentsOf region.now }
+    requires { (length_of region.now % mib ≡ 0) × (metadata_rule region.now ≡ true) × (needed_rule region.now ≡ true) }
+    ensures { result ≡ contents_of region.now }
 {
     let has_parent = item::has_parent(region);
     let parameters = item::bytes(region, known::FILE_PARAMETERS);

@@ -16,7 +16,7 @@ use Rattle.vhdx_locator.specs.Locator.{value_of}
 use Rattle.vhdx_locator.proofs.Laws.{value-inside}
 use Rattle.vhdx_fit.specs.Fit.{fits}
 use Rattle.vhdx_fit.proofs.Laws.{within-capacity, locator-inside}
-use Rattle.vhdx_parent.specs.Key.{within, inLocator, keyExtent}
+use Rattle.vhdx_parent.specs.Key.{within, in_locator, key_extent}
 
 -- a part of the m bytes at an offset
 within-inside : (offset m n : ℕ) (e : Extent) → e.offset + e.length ≤ m → offset + m ≤ n → (within offset e).offset + (within offset e).length ≤ n
@@ -27,19 +27,19 @@ within-inside offset m n e p q = go (ltb 0 e.length)
     go false = omega arith
 
 in-locator-inside : (f : Facts) (image key : List ℕ) → f.locator.offset + f.locator.length ≤ length image
-    → (inLocator f image key).offset + (inLocator f image key).length ≤ length image
-unfolding inLocator
+    → (in_locator f image key).offset + (in_locator f image key).length ≤ length image
+unfolding in_locator
 in-locator-inside f image key h =
     let item = part image f.locator in
     let inside : (value_of item key).offset + (value_of item key).length ≤ f.locator.length = omega (arith, value-inside item key, part_length image f.locator h) in
     within-inside f.locator.offset f.locator.length (length image) (value_of item key) inside h
 
-pub key-inside : (f : Facts) (buffer : List ℕ) (n : ℕ) (key : List ℕ) → (keyExtent f buffer n key).offset + (keyExtent f buffer n key).length ≤ length buffer
-unfolding keyExtent
+pub key-inside : (f : Facts) (buffer : List ℕ) (n : ℕ) (key : List ℕ) → (key_extent f buffer n key).offset + (key_extent f buffer n key).length ≤ length buffer
+unfolding key_extent
 key-inside f buffer n key = go (fits (length buffer) n f && f.has_parent) refl
   where
     go : (t : Bool) → (fits (length buffer) n f && f.has_parent) ≡ t
-        → (cond t (inLocator f (take n buffer) key) nowhere).offset + (cond t (inLocator f (take n buffer) key) nowhere).length ≤ length buffer
+        → (cond t (in_locator f (take n buffer) key) nowhere).offset + (cond t (in_locator f (take n buffer) key) nowhere).length ≤ length buffer
     go false e = omega arith
     go true e =
         let p = (and-eq-true_iff (fits (length buffer) n f) f.has_parent).0 e in

@@ -14,64 +14,64 @@ use Rattle.field.specs.Fields.{Bytes}
 use Rattle.field.proofs.Bytes.{bytes-append, bytes_take, bytes_drop, bytes-zeros}
 use Rattle.extent.specs.declared.Extent.{Extent}
 use Rattle.extent.specs.Extent.{part}
-use Rattle.vhdx_entry.specs.Ring.{sectorCount, sectorAt}
+use Rattle.vhdx_entry.specs.Ring.{sector_count, sector_at}
 use Rattle.vhdx_entry.proofs.Laws.{within-take}
 use Rattle.vhdx_walk.specs.Entries.{Sector, sectors}
-use Rattle.vhdx_walk.specs.Cursor.{descriptorsOn}
+use Rattle.vhdx_walk.specs.Cursor.{descriptors_on}
 use Rattle.vhdx_log.specs.Work.{Plan, refused, apply, count}
 use Rattle.vhdx_log.specs.Plan.{plan}
-use Rattle.vhdx_log.specs.Answers.{logOf}
+use Rattle.vhdx_log.specs.Answers.{log_of}
 use Rattle.vhdx_log.proofs.Answering.{plan-refused}
 use Rattle.vhdx_header.specs.declared.Answer.TheVariants as answer
-use Rattle.vhdx_header.specs.Current.{currentHeader}
+use Rattle.vhdx_header.specs.Current.{current_header}
 use Rattle.vhdx_pieces_plan.specs.declared.Order.{Order}
 use Rattle.vhdx_pieces_plan.specs.declared.Outcome.{Outcome}
 use Rattle.vhdx_pieces_plan.specs.declared.Outcome.TheVariants as outcome
-use Rattle.vhdx_pieces_plan.specs.declared.Step as planStep
+use Rattle.vhdx_pieces_plan.specs.declared.Step as plan_step
 use Rattle.vhdx_pieces_plan.specs.Planning as planning
-use Rattle.vhdx_pieces_plan.specs.Planning.{sectorsOf, sectorIn}
+use Rattle.vhdx_pieces_plan.specs.Planning.{sectors_of, sector_in}
 use Rattle.vhdx_pieces_plan.proofs.Planned.{plans-all}
-use Rattle.vhdx_pieces_walk.specs.declared.Step as walkStep
+use Rattle.vhdx_pieces_walk.specs.declared.Step as walk_step
 use Rattle.vhdx_pieces_walk.specs.Walking as walking
 use Rattle.vhdx_pieces_walk.proofs.Walked.{writes-all}
 use Rattle.vhdx_pieces.specs.declared.Machine.TheVariants.{Planning, Growing, Reading, Writing}
 use Rattle.vhdx_pieces.specs.declared.Turn.TheVariants.{Grow, Refused}
-use Rattle.vhdx_pieces.specs.Machines.{bounds_of, walked, walkFrom, ordered, planned, started, step_of}
+use Rattle.vhdx_pieces.specs.Machines.{bounds_of, walked, walk_from, ordered, planned, started, step_of}
 use Rattle.vhdx_pieces.specs.Runs as runs
 use Rattle.vhdx_pieces.specs.Runs.{Request, grow, write, Result, refusal, finished, Ends, buffered, requests, result_of, Faithful}
 
 module _ (f b : List ℕ) (same : (e : Extent) → e.offset + e.length ≤ length f → part b e ≡ part f e) where
   -- the planner's run
-  lift-plan : {st : planStep.Step} {o : Outcome} {rs : List Request} {x : Result} → planning.Plans b (length f) st o
+  lift-plan : {st : plan_step.Step} {o : Outcome} {rs : List Request} {x : Result} → planning.Plans b (length f) st o
       → ((p : List ℕ) → Ends f p (ordered (length f) o) rs x) → (p : List ℕ) → Ends f p (planned (length f) st) rs x
   unfolding step_of
   lift-plan planning.stop h p = h p
   lift-plan {rs = rs} {x = x} (planning.next {p = m} sized inside short r) h p =
       runs.reads {m = Planning m} {rs = rs} {x = x} inside short
-      (subst (λ (n : ℕ). Ends f (part f (planning.wantedOf m)) (planned n (planning.step_of m (part f (planning.wantedOf m)))) rs x) (sym sized)
-      (subst (λ (l : List ℕ). Ends f (part f (planning.wantedOf m)) (planned (length f) (planning.step_of m l)) rs x) (same (planning.wantedOf m) inside)
-      (lift-plan r h (part f (planning.wantedOf m)))))
+      (subst (λ (n : ℕ). Ends f (part f (planning.wanted_of m)) (planned n (planning.step_of m (part f (planning.wanted_of m)))) rs x) (sym sized)
+      (subst (λ (l : List ℕ). Ends f (part f (planning.wanted_of m)) (planned (length f) (planning.step_of m l)) rs x) (same (planning.wanted_of m) inside)
+      (lift-plan r h (part f (planning.wanted_of m)))))
 
   -- sector k of the log
-  sector-part : (log : Extent) (k : ℕ) → k < sectorsOf log → part b (sectorIn log k) ≡ sectorAt (part b log) k
-  unfolding part sectorAt
+  sector-part : (log : Extent) (k : ℕ) → k < sectors_of log → part b (sector_in log k) ≡ sector_at (part b log) k
+  unfolding part sector_at
   sector-part log k h =
       sym
       (within-take 4096 (k * 4096) log.length (drop log.offset b) (omega arith)
       ∙ ap (take 4096) (drop-drop (k * 4096) log.offset b ∙ ap (λ (x : ℕ). drop x b) {x = log.offset + k * 4096} {y = log.offset + 4096 * k} (omega arith)))
 
   -- the walker's run
-  module _ (o : Order) (log : List ℕ) (log_is : part b o.log ≡ log) (sized : sectorCount log ≡ sectorsOf o.log) (inside : o.log.offset + o.log.length ≤ length f) where
-    read_is : (k : ℕ) → k < sectorCount log → part f (sectorIn o.log k) ≡ sectorAt log k
-    read_is k h = sym (same (sectorIn o.log k) (omega arith)) ∙ sector-part o.log k (omega arith) ∙ ap (λ (l : List ℕ). sectorAt l k) log_is
+  module _ (o : Order) (log : List ℕ) (log_is : part b o.log ≡ log) (sized : sector_count log ≡ sectors_of o.log) (inside : o.log.offset + o.log.length ≤ length f) where
+    read_is : (k : ℕ) → k < sector_count log → part f (sector_in o.log k) ≡ sector_at log k
+    read_is k h = sym (same (sector_in o.log k) (omega arith)) ∙ sector-part o.log k (omega arith) ∙ ap (λ (l : List ℕ). sector_at l k) log_is
 
-    lift-walk : {p : List ℕ} {st : walkStep.Step} {ss : List Sector} → walking.Writes log (bounds_of o) p st ss → (k : ℕ) → k ≡ length ss
+    lift-walk : {p : List ℕ} {st : walk_step.Step} {ss : List Sector} → walking.Writes log (bounds_of o) p st ss → (k : ℕ) → k ≡ length ss
         → Ends f p (walked o k st) (map write ss) (finished o.length o.count)
     unfolding step_of
     lift-walk walking.stop k e = rw e runs.done
     lift-walk (walking.reads {w} {ss} below r) k e =
         runs.reads {m = Reading (record { order = o; walker = w; unwritten = k })} {rs = map write ss} {x = finished o.length o.count} (omega arith) (lit≤ tt)
-        (subst (λ (l : List ℕ). Ends f l (walked o k (walking.step_of (bounds_of o) w l)) (map write ss) (finished o.length o.count)) (sym (read_is (walking.wantedOf w) below)) (lift-walk r k e))
+        (subst (λ (l : List ℕ). Ends f l (walked o k (walking.step_of (bounds_of o) w l)) (map write ss) (finished o.length o.count)) (sym (read_is (walking.wanted_of w) below)) (lift-walk r k e))
     lift-walk (walking.writes {w} {ss} r) k e =
         rw (lt-ltb 0 k (omega (arith, e)))
         (runs.writes {m = Writing (record { order = o; walker = w; unwritten = k - 1 })} {rs = map write ss} {x = finished o.length o.count} (λ q. lift-walk (r q) (k - 1) (omega (arith, e))))
@@ -80,26 +80,26 @@ module _ (f b : List ℕ) (same : (e : Extent) → e.offset + e.length ≤ lengt
 
 module _ (f b : List ℕ) (same : (e : Extent) → e.offset + e.length ≤ length f → part b e ≡ part f e) (bytes : Bytes b) where
   abbrev log : List ℕ
-  log = logOf b (length f)
+  log = log_of b (length f)
 
   -- the sectors that an order names
   abbrev named : Order → List Sector
-  named o = sectors (descriptorsOn log o.start 0 o.left)
+  named o = sectors (descriptors_on log o.start 0 o.left)
 
   module _ (o : Order) (counted : o.count ≡ length (named o)) where
     abbrev Ending : List ℕ → Type 0
-    Ending p = Ends f p (walkFrom o) (map write (named o)) (finished o.length o.count)
+    Ending p = Ends f p (walk_from o) (map write (named o)) (finished o.length o.count)
 
     none_left : o.left ≡ 0 → (p : List ℕ) → Ending p
-    unfolding walkFrom descriptorsOn
+    unfolding walk_from descriptors_on
     none_left e p =
-        let none : o.count ≡ 0 = counted ∙ ap (λ (k : ℕ). length (sectors (descriptorsOn log o.start 0 k))) e in
+        let none : o.count ≡ 0 = counted ∙ ap (λ (k : ℕ). length (sectors (descriptors_on log o.start 0 k))) e in
         rw (e, none) runs.done
 
     some_left : planning.Walks (length f) b log o → (p : List ℕ) → Ending p
-    unfolding walkFrom part
+    unfolding walk_from part
     some_left w p =
-        let counts : sectorCount log ≡ sectorsOf o.log = omega (arith, w.whole) in
+        let counts : sector_count log ≡ sectors_of o.log = omega (arith, w.whole) in
         let here = subst Bytes w.log_is (bytes_take o.log.length (drop o.log.offset b) (bytes_drop o.log.offset b bytes)) in
         let run = writes-all log (bounds_of o) o.start o.left p here (omega (arith, w.whole)) (omega (arith, w.start, counts)) w.readable w.bounded w.apart in
         lift-walk f b same o log w.log_is counts w.inside
@@ -114,7 +114,7 @@ module _ (f b : List ℕ) (same : (e : Extent) → e.offset + e.length ≤ lengt
 
     -- growth first, only where the final length is greater
     does : (0 < o.left → planning.Walks (length f) b log o) → (t : Bool) → (p : List ℕ)
-        → Ends f p (cond t (Grow (Growing o)) (walkFrom o)) (cond t (grow o.length ∷ map write (named o)) (map write (named o))) (finished o.length o.count)
+        → Ends f p (cond t (Grow (Growing o)) (walk_from o)) (cond t (grow o.length ∷ map write (named o)) (map write (named o))) (finished o.length o.count)
     unfolding step_of
     does w true p = runs.grows {m = Growing o} (λ q. walks w q)
     does w false p = walks w p
@@ -145,14 +145,14 @@ unfolding buffered
 bytes-buffered capacity f h = bytes_take capacity (f ++ replicate capacity 0) (bytes-append f (replicate capacity 0) h (bytes-zeros capacity))
 
 -- 1
-current-1 : (b : List ℕ) (n : ℕ) → length b < n → currentHeader b n ≡ answer.Refused 1
-unfolding currentHeader
+current-1 : (b : List ℕ) (n : ℕ) → length b < n → current_header b n ≡ answer.Refused 1
+unfolding current_header
 current-1 b n h = rw (lt-leb n (length b) h)
 
 too_long : (capacity : ℕ) (f : List ℕ) → capacity < length f → refused 1 ≡ plan (buffered capacity f) (length f)
 too_long capacity f h = plan-refused (buffered capacity f) (length f) 1 (refused-1 h)
   where
-    refused-1 : capacity < length f → currentHeader (buffered capacity f) (length f) ≡ answer.Refused 1
+    refused-1 : capacity < length f → current_header (buffered capacity f) (length f) ≡ answer.Refused 1
     refused-1 h = current-1 (buffered capacity f) (length f) (omega (arith, length-buffered capacity f))
 
 pub faithful : Faithful

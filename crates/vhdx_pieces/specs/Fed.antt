@@ -3,22 +3,22 @@
 -- Assumes nothing.
 use Rattle.std.specs.Prelude.{List, ◌≡◌, ℕ, suc, ◌+◌, ◌≤◌, ◌<◌, length}
 use Rattle.vhdx_pieces_plan.specs.declared.Order.{Order}
-use Rattle.vhdx_pieces_plan.specs.Planning.{planMost}
+use Rattle.vhdx_pieces_plan.specs.Planning.{plan_most}
 use Rattle.vhdx_pieces_walk.specs.Walking.{Apart}
 use Rattle.vhdx_pieces.specs.declared.Machine.{Machine}
 use Rattle.vhdx_pieces.specs.declared.Turn.{Turn}
 use Rattle.vhdx_pieces.specs.declared.Turn.TheVariants.{Read, Grow, Write, Done, Refused}
-use Rattle.vhdx_pieces.specs.Machines.{wantedOf, growthOf, written_of, bounds_of, started, step_of, workMost}
+use Rattle.vhdx_pieces.specs.Machines.{wanted_of, growth_of, written_of, bounds_of, started, step_of, work_most}
 
 -- a read of 1 to 65,536 bytes among the first n
 pub record Wants (n : ℕ) (m : Machine) : Type 0 where
-  pub some : 1 ≤ (wantedOf m).length
-  pub few : (wantedOf m).length ≤ 65536
-  pub inside : (wantedOf m).offset + (wantedOf m).length ≤ n
+  pub some : 1 ≤ (wanted_of m).length
+  pub few : (wanted_of m).length ≤ 65536
+  pub inside : (wanted_of m).offset + (wanted_of m).length ≤ n
 
 -- a piece of the length that was asked for
 abbrev pub Piece : Machine → List ℕ → Type 0
-Piece m p = length p ≡ (wantedOf m).length
+Piece m p = length p ≡ (wanted_of m).length
 
 -- An order is being done on a file of n bytes, and k of its sectors are not written yet: at most j requests more; each write apart
 -- from the first MiB and from the log, and within the final length; done after exactly k writes, or refused as 5.
@@ -32,12 +32,12 @@ pub data Does (n : ℕ) (o : Order) : ℕ → ℕ → Turn → Type 0 where
 pub data Answers (n : ℕ) : ℕ → Turn → Type 0 where
   refuses : {j c : ℕ} → 1 ≤ c → c ≤ 8 → Answers n j (Refused c)
   reads : {j : ℕ} {m : Machine} → Wants n m → ((p : List ℕ) → Piece m p → Answers n j (step_of m p)) → Answers n (suc j) (Read m)
-  grows : {j : ℕ} {m : Machine} {o : Order} → n < o.length → growthOf m ≡ o.length → ((p : List ℕ) → Does n o j o.count (step_of m p)) → Answers n (suc j) (Grow m)
+  grows : {j : ℕ} {m : Machine} {o : Order} → n < o.length → growth_of m ≡ o.length → ((p : List ℕ) → Does n o j o.count (step_of m p)) → Answers n (suc j) (Grow m)
   orders : {j : ℕ} {t : Turn} {o : Order} → o.length ≡ n → Does n o j o.count t → Answers n j t
 
 -- as many requests as there may be
 abbrev pub most : ℕ
-most = planMost + suc workMost
+most = plan_most + suc work_most
 
 -- whatever is fed, it ends after at most so many requests, having asked for nothing else. Proved in proofs/Answering.antt
 abbrev pub AlwaysAnswers : Type 0

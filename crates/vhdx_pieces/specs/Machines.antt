@@ -1,20 +1,20 @@
 -- The log's work in pieces (change request Q-13: "it says which bytes of the file it wants next or which it wants written, and is told
 -- they are there"): what a machine asks for, and what it does when that is done.
 -- Assumes nothing.
-use Rattle.std.specs.Prelude.{Bool, false, cond, List, ◌≡◌, ℕ, suc, ◌+◌, ◌-◌, ◌*◌, ◌<◌, eqb, ltb}
+use Rattle.std.specs.Prelude.{Bool, false, cond, List, ◌≡◌, ℕ, suc, ◌+◌, ◌-◌, ◌*◌, ◌<◌, nat_eq, nat_lt}
 use Rattle.decision.specs.Refusal.{check}
 use Rattle.extent.specs.declared.Extent.{Extent}
-use Rattle.vhdx_walk.specs.Entries.{Sector, lengthLimit}
+use Rattle.vhdx_walk.specs.Entries.{Sector, length_limit}
 use Rattle.vhdx_pieces_plan.specs.declared.Order.{Order}
 use Rattle.vhdx_pieces_plan.specs.declared.Outcome.{Outcome}
 use Rattle.vhdx_pieces_plan.specs.declared.Outcome.TheVariants as outcome
 use Rattle.vhdx_pieces_plan.specs.declared.Step as plan
-use Rattle.vhdx_pieces_plan.specs.declared.Step.TheVariants as planStep
+use Rattle.vhdx_pieces_plan.specs.declared.Step.TheVariants as plan_step
 use Rattle.vhdx_pieces_plan.specs.Planning as planning
-use Rattle.vhdx_pieces_plan.specs.Planning.{sectorsOf, sectorIn, OrderFor}
+use Rattle.vhdx_pieces_plan.specs.Planning.{sectors_of, sector_in, OrderFor}
 use Rattle.vhdx_pieces_walk.specs.declared.Bounds.{Bounds}
 use Rattle.vhdx_pieces_walk.specs.declared.Step as walk
-use Rattle.vhdx_pieces_walk.specs.declared.Step.TheVariants as walkStep
+use Rattle.vhdx_pieces_walk.specs.declared.Step.TheVariants as walk_step
 use Rattle.vhdx_pieces_walk.specs.Walking as walking
 use Rattle.vhdx_pieces_sector.specs.Written as written
 use Rattle.vhdx_pieces.specs.declared.Machine.{Machine}
@@ -23,18 +23,18 @@ use Rattle.vhdx_pieces.specs.declared.Turn.{Turn}
 use Rattle.vhdx_pieces.specs.declared.Turn.TheVariants.{Read, Grow, Write, Done, Refused}
 
 -- the bytes that are wanted, none where something else is asked for
-abbrev pub wantedOf : Machine → Extent
-wantedOf (Planning p) = planning.wantedOf p
-wantedOf (Growing o) = record { offset = 0; length = 0 }
-wantedOf (Reading d) = sectorIn d.order.log (walking.wantedOf d.walker)
-wantedOf (Writing d) = record { offset = 0; length = 0 }
+abbrev pub wanted_of : Machine → Extent
+wanted_of (Planning p) = planning.wanted_of p
+wanted_of (Growing o) = record { offset = 0; length = 0 }
+wanted_of (Reading d) = sector_in d.order.log (walking.wanted_of d.walker)
+wanted_of (Writing d) = record { offset = 0; length = 0 }
 
 -- the length to which the file is to grow
-abbrev pub growthOf : Machine → ℕ
-growthOf (Planning p) = 0
-growthOf (Growing o) = o.length
-growthOf (Reading d) = 0
-growthOf (Writing d) = 0
+abbrev pub growth_of : Machine → ℕ
+growth_of (Planning p) = 0
+growth_of (Growing o) = o.length
+growth_of (Reading d) = 0
+growth_of (Writing d) = 0
 
 -- the sector that is to be written, where s was read last
 abbrev pub written_of : Machine → List ℕ → Sector
@@ -44,52 +44,52 @@ written_of (Reading d) s = record { offset = 0; bytes = s }
 written_of (Writing d) s = walking.written_of d.walker s
 
 -- it is a data descriptor's
-abbrev pub isDataOf : Machine → Bool
-isDataOf (Planning p) = false
-isDataOf (Growing o) = false
-isDataOf (Reading d) = false
-isDataOf (Writing d) = written.isDataOf d.walker
+abbrev pub is_data_of : Machine → Bool
+is_data_of (Planning p) = false
+is_data_of (Growing o) = false
+is_data_of (Reading d) = false
+is_data_of (Writing d) = written.is_data_of d.walker
 
 abbrev pub bounds_of : Order → Bounds
 bounds_of o = record { log = o.log; limit = o.length }
 
 -- where k of the planned sectors are not written yet: a log that reads otherwise than it did asks for more or fewer
 abbrev pub walked : Order → ℕ → walk.Step → Turn
-walked o k (walkStep.Read w) = Read (Reading (record { order = o; walker = w; unwritten = k }))
-walked o k (walkStep.Write w) = check (ltb 0 k) (Refused 5) (Write (Writing (record { order = o; walker = w; unwritten = k - 1 })))
-walked o k walkStep.Ended = check (eqb k 0) (Refused 5) (Done (record { length = o.length; count = o.count }))
-walked o k walkStep.Broken = Refused 5
+walked o k (walk_step.Read w) = Read (Reading (record { order = o; walker = w; unwritten = k }))
+walked o k (walk_step.Write w) = check (nat_lt 0 k) (Refused 5) (Write (Writing (record { order = o; walker = w; unwritten = k - 1 })))
+walked o k walk_step.Ended = check (nat_eq k 0) (Refused 5) (Done (record { length = o.length; count = o.count }))
+walked o k walk_step.Broken = Refused 5
 
-unfoldable pub walkFrom : Order → Turn
-walkFrom o = walked o o.count (walking.started (record { at = o.start; len = sectorsOf o.log }) o.left)
+unfoldable pub walk_from : Order → Turn
+walk_from o = walked o o.count (walking.started (record { at = o.start; len = sectors_of o.log }) o.left)
 
 abbrev pub ordered : ℕ → Outcome → Turn
 ordered n (outcome.Refused c) = Refused c
-ordered n (outcome.Apply o) = cond (ltb n o.length) (Grow (Growing o)) (walkFrom o)
+ordered n (outcome.Apply o) = cond (nat_lt n o.length) (Grow (Growing o)) (walk_from o)
 
 abbrev pub planned : ℕ → plan.Step → Turn
-planned n (planStep.Read p) = Read (Planning p)
-planned n (planStep.Ended o) = ordered n o
+planned n (plan_step.Read p) = Read (Planning p)
+planned n (plan_step.Ended o) = ordered n o
 
 abbrev pub started : ℕ → ℕ → Turn
 started n capacity = planned n (planning.started n capacity)
 
-abbrev pub stepIn : Machine → List ℕ → Turn
-stepIn (Planning p) s = planned p.context.length (planning.step_of p s)
-stepIn (Growing o) s = walkFrom o
-stepIn (Reading d) s = walked d.order d.unwritten (walking.step_of (bounds_of d.order) d.walker s)
-stepIn (Writing d) s = walked d.order d.unwritten (walking.wroteOf d.walker)
+abbrev pub step_in : Machine → List ℕ → Turn
+step_in (Planning p) s = planned p.context.length (planning.step_of p s)
+step_in (Growing o) s = walk_from o
+step_in (Reading d) s = walked d.order d.unwritten (walking.step_of (bounds_of d.order) d.walker s)
+step_in (Writing d) s = walked d.order d.unwritten (walking.wrote_of d.walker)
 
 unfoldable pub step_of : Machine → List ℕ → Turn
-step_of m s = stepIn m s
+step_of m s = step_in m s
 
 -- ---- what a machine keeps to, whatever is fed
 
 abbrev pub Sane : Machine → Type 0
 Sane (Planning p) = planning.Sane p
 Sane (Growing o) = OrderFor o.length o
-Sane (Reading d) = OrderFor d.order.length d.order × walking.SaneReading (bounds_of d.order) d.walker × (d.walker.pos.len ≡ sectorsOf d.order.log)
-Sane (Writing d) = OrderFor d.order.length d.order × walking.SaneWriting (bounds_of d.order) d.walker × (d.walker.pos.len ≡ sectorsOf d.order.log)
+Sane (Reading d) = OrderFor d.order.length d.order × walking.SaneReading (bounds_of d.order) d.walker × (d.walker.pos.len ≡ sectors_of d.order.log)
+Sane (Writing d) = OrderFor d.order.length d.order × walking.SaneWriting (bounds_of d.order) d.walker × (d.walker.pos.len ≡ sectors_of d.order.log)
 
 abbrev pub Kept : Turn → Type 0
 Kept (Read m) = Sane m
@@ -101,22 +101,22 @@ Kept (Refused c) = Unit {0}
 -- ---- how many requests it still makes, at most
 
 -- of the work on a log of fewer than 2^20 sectors, an entry with fewer than 2^32 descriptors
-abbrev pub workMost : ℕ
-workMost = 1048576 * 4294967296 * (lengthLimit + 3)
+abbrev pub work_most : ℕ
+work_most = 1048576 * 4294967296 * (length_limit + 3)
 
-abbrev pub leftIn : Machine → ℕ
-leftIn (Planning p) = planning.left_of (planStep.Read p) + suc workMost
-leftIn (Growing o) = suc workMost
-leftIn (Reading d) = walking.left_of (bounds_of d.order) (walkStep.Read d.walker)
-leftIn (Writing d) = walking.left_of (bounds_of d.order) (walkStep.Write d.walker)
+abbrev pub left_in : Machine → ℕ
+left_in (Planning p) = planning.left_of (plan_step.Read p) + suc work_most
+left_in (Growing o) = suc work_most
+left_in (Reading d) = walking.left_of (bounds_of d.order) (walk_step.Read d.walker)
+left_in (Writing d) = walking.left_of (bounds_of d.order) (walk_step.Write d.walker)
 
 abbrev pub left_of : Turn → ℕ
-left_of (Read m) = leftIn m
-left_of (Grow m) = leftIn m
-left_of (Write m) = leftIn m
+left_of (Read m) = left_in m
+left_of (Grow m) = left_in m
+left_of (Write m) = left_in m
 left_of (Done w) = 0
 left_of (Refused c) = 0
 
 -- whatever is fed, it may be fed again, and less is left
 abbrev pub MachineAdvances : Type 0
-MachineAdvances = (m : Machine) (p : List ℕ) → Sane m → Kept (step_of m p) × (left_of (step_of m p) < leftIn m)
+MachineAdvances = (m : Machine) (p : List ℕ) → Sane m → Kept (step_of m p) × (left_of (step_of m p) < left_in m)

@@ -1,6 +1,6 @@
 -- Runs of the machine, and the theorem: fed one file faithfully it asks for what the whole-buffer form does.
 -- Assumes nothing.
-use Rattle.std.specs.Prelude.{cond, List, [], ◌∷◌, ◌++◌, map, ℕ, ◌+◌, ◌≤◌, ltb, length, take, replicate}
+use Rattle.std.specs.Prelude.{cond, List, [], ◌∷◌, ◌++◌, map, ℕ, ◌+◌, ◌≤◌, nat_lt, length, take, replicate}
 use Rattle.extent.specs.Extent.{part}
 use Rattle.field.specs.Fields.{Bytes}
 use Rattle.vhdx_walk.specs.Entries.{Sector}
@@ -10,7 +10,7 @@ use Rattle.vhdx_pieces.specs.declared.Machine.{Machine}
 use Rattle.vhdx_pieces.specs.declared.Finish.{Finish}
 use Rattle.vhdx_pieces.specs.declared.Turn.{Turn}
 use Rattle.vhdx_pieces.specs.declared.Turn.TheVariants.{Read, Grow, Write, Done, Refused}
-use Rattle.vhdx_pieces.specs.Machines.{wantedOf, growthOf, written_of, started, step_of}
+use Rattle.vhdx_pieces.specs.Machines.{wanted_of, growth_of, written_of, started, step_of}
 
 -- what is asked for besides reads
 pub data Request : Type 0 where
@@ -27,9 +27,9 @@ pub data Result : Type 0 where
 pub data Ends (f : List ℕ) : List ℕ → Turn → List Request → Result → Type 0 where
   done : {p : List ℕ} {w : Finish} → Ends f p (Done w) [] (finished w.length w.count)
   refuses : {p : List ℕ} {c : ℕ} → Ends f p (Refused c) [] (refusal c)
-  reads : {p : List ℕ} {m : Machine} {rs : List Request} {x : Result} → (wantedOf m).offset + (wantedOf m).length ≤ length f → (wantedOf m).length ≤ 65536
-      → Ends f (part f (wantedOf m)) (step_of m (part f (wantedOf m))) rs x → Ends f p (Read m) rs x
-  grows : {p : List ℕ} {m : Machine} {rs : List Request} {x : Result} → ((p₂ : List ℕ) → Ends f p₂ (step_of m p₂) rs x) → Ends f p (Grow m) (grow (growthOf m) ∷ rs) x
+  reads : {p : List ℕ} {m : Machine} {rs : List Request} {x : Result} → (wanted_of m).offset + (wanted_of m).length ≤ length f → (wanted_of m).length ≤ 65536
+      → Ends f (part f (wanted_of m)) (step_of m (part f (wanted_of m))) rs x → Ends f p (Read m) rs x
+  grows : {p : List ℕ} {m : Machine} {rs : List Request} {x : Result} → ((p₂ : List ℕ) → Ends f p₂ (step_of m p₂) rs x) → Ends f p (Grow m) (grow (growth_of m) ∷ rs) x
   writes : {p : List ℕ} {m : Machine} {rs : List Request} {x : Result} → ((p₂ : List ℕ) → Ends f p₂ (step_of m p₂) rs x) → Ends f p (Write m) (write (written_of m p) ∷ rs) x
 
 -- a buffer of the stated capacity that begins with the file ("1 and 8 read a stated room in place of the buffer")
@@ -40,7 +40,7 @@ buffered capacity f = take capacity (f ++ replicate capacity 0)
 -- where that is greater")
 abbrev pub requests : ℕ → Plan → List Request
 requests n (refused c) = []
-requests n (apply m ss) = cond (ltb n m) (grow m ∷ map write ss) (map write ss)
+requests n (apply m ss) = cond (nat_lt n m) (grow m ∷ map write ss) (map write ss)
 
 abbrev pub result_of : Plan → Result
 result_of (refused c) = refusal c

@@ -1,10 +1,10 @@
 // The log's work in pieces: a machine says which bytes of the file it wants, to which length the file is to grow, or that a sector is to
 // be written. It is handed in again when they are there or it is done, and handed back moved.
 ghost use Rattle.std.specs.Prelude.{List, ◌≡◌, ℕ, ◌+◌, ◌≤◌, ◌<◌, length as length_of};
-ghost use Rattle.vhdx_pieces_plan.specs.Planning.{sectorsOf, OrderFor, Ordered, Kept as PlanKept};
+ghost use Rattle.vhdx_pieces_plan.specs.Planning.{sectors_of, OrderFor, Ordered, Kept as PlanKept};
 ghost use Rattle.vhdx_pieces_walk.specs.declared.Step.TheVariants.{Write};
 ghost use Rattle.vhdx_pieces_walk.specs.Walking.{Onward as WalkOnward};
-ghost use Rattle.vhdx_pieces.specs.Machines.{Sane, Kept, bounds_of, wantedOf, growthOf, written_of, isDataOf, started, planned, ordered, walked, walkFrom, step_of};
+ghost use Rattle.vhdx_pieces.specs.Machines.{Sane, Kept, bounds_of, wanted_of, growth_of, written_of, is_data_of, started, planned, ordered, walked, walk_from, step_of};
 
 use extent::Extent;
 use vhdx_entry::ring::RingPos;
@@ -58,7 +58,7 @@ pub fn start(length: u64, capacity: u64) -> Turn
 // The bytes of the file that are wanted, none where something else is asked for.
 pub fn wanted(m: Machine) -> Extent
     requires { Sane m }
-    ensures { (result ≡ wantedOf m) × (result.length ≤ 65536) }
+    ensures { (result ≡ wanted_of m) × (result.length ≤ 65536) }
 {
     match m {
         Machine::Planning(p) => vhdx_pieces_plan::wanted(p),
@@ -75,7 +75,7 @@ pub fn wanted(m: Machine) -> Extent
 
 // The length to which the file is to grow, 0 where something else is asked for.
 pub fn growth(m: Machine) -> u64
-    ensures { result ≡ growthOf m }
+    ensures { result ≡ growth_of m }
 {
     match m {
         Machine::Growing(o) => o.length,
@@ -102,7 +102,7 @@ pub fn write_offset(m: Machine) -> u64
 
 // That sector is a data descriptor's.
 pub fn is_data(m: Machine) -> bool
-    ensures { result ≡ isDataOf m }
+    ensures { result ≡ is_data_of m }
 {
     match m {
         Machine::Writing(d) => {
@@ -133,7 +133,7 @@ pub fn fill(m: Machine, sector: &mut [u8])
 
 // Handed in, after what it asked for; the piece counts after a read only.
 pub fn next(m: Machine, piece: &[u8]) -> Turn
-    requires { Sane m × (length_of piece.now ≡ (wantedOf m).length) }
+    requires { Sane m × (length_of piece.now ≡ (wanted_of m).length) }
     ensures { (result ≡ step_of m piece.now) × Kept result }
 {
     match m {
@@ -196,7 +196,7 @@ fn order_turn(length: u64, outcome: Outcome) -> Turn
 
 fn walk_from(o: Order) -> Turn
     requires { OrderFor o.length o }
-    ensures { (result ≡ walkFrom o) × Kept result }
+    ensures { (result ≡ walk_from o) × Kept result }
 {
     let log = o.log;
     let n = vhdx_pieces_plan::sectors(log);
@@ -215,7 +215,7 @@ fn walk_from(o: Order) -> Turn
 
 // Where so many planned sectors are not written yet. A log that reads otherwise than when it was surveyed asks for more or fewer.
 fn walk_turn(o: Order, unwritten: u64, step: vhdx_pieces_walk::Step) -> Turn
-    requires { OrderFor o.length o × WalkOnward (bounds_of o) (sectorsOf o.log) step }
+    requires { OrderFor o.length o × WalkOnward (bounds_of o) (sectors_of o.log) step }
     ensures { (result ≡ walked o unwritten step) × Kept result }
 {
     match step {
@@ -240,7 +240,7 @@ fn walk_turn(o: Order, unwritten: u64, step: vhdx_pieces_walk::Step) -> Turn
 }
 
 fn write_turn(o: Order, unwritten: u64, walker: Walker) -> Turn
-    requires { OrderFor o.length o × WalkOnward (bounds_of o) (sectorsOf o.log) (Write walker) }
+    requires { OrderFor o.length o × WalkOnward (bounds_of o) (sectors_of o.log) (Write walker) }
     ensures { (result ≡ walked o unwritten (Write walker)) × Kept result }
 {
     if 0 < unwritten {

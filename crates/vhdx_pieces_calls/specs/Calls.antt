@@ -6,27 +6,27 @@ use Rattle.vhdx_slots.specs.Slots.{bit}
 use Rattle.vhdx_pieces.specs.declared.Machine.{Machine}
 use Rattle.vhdx_pieces.specs.declared.Turn.{Turn}
 use Rattle.vhdx_pieces.specs.declared.Turn.TheVariants.{Read, Grow, Write, Done, Refused}
-use Rattle.vhdx_pieces.specs.Machines.{wantedOf, growthOf, written_of, isDataOf, step_of}
+use Rattle.vhdx_pieces.specs.Machines.{wanted_of, growth_of, written_of, is_data_of, step_of}
 use Rattle.vhdx_pieces_slots.specs.declared.Loaded.{Loaded}
 use Rattle.vhdx_pieces_slots.specs.declared.Loaded.TheVariants.{Known, Unknown}
 use Rattle.vhdx_pieces_slots.specs.Slots.{zeros, numbers}
 use Rattle.vhdx_pieces_calls.specs.declared.Request.{Request}
 
 -- what a turn asks for, or how it ended
-abbrev pub requestOf : Turn → Request
-requestOf (Read m) = record { kind = 1; first = (wantedOf m).offset; second = (wantedOf m).length }
-requestOf (Grow m) = record { kind = 2; first = growthOf m; second = 0 }
-requestOf (Write m) = record { kind = 3; first = (written_of m []).offset; second = bit (isDataOf m) }
-requestOf (Done w) = record { kind = 4; first = w.length; second = w.count }
-requestOf (Refused c) = record { kind = 0; first = c; second = 0 }
+abbrev pub request_of : Turn → Request
+request_of (Read m) = record { kind = 1; first = (wanted_of m).offset; second = (wanted_of m).length }
+request_of (Grow m) = record { kind = 2; first = growth_of m; second = 0 }
+request_of (Write m) = record { kind = 3; first = (written_of m []).offset; second = bit (is_data_of m) }
+request_of (Done w) = record { kind = 4; first = w.length; second = w.count }
+request_of (Refused c) = record { kind = 0; first = c; second = 0 }
 
 -- the machine that goes on, or none
-abbrev pub numbersOf : Turn → List ℕ
-numbersOf (Read m) = numbers m
-numbersOf (Grow m) = numbers m
-numbersOf (Write m) = numbers m
-numbersOf (Done w) = zeros
-numbersOf (Refused c) = zeros
+abbrev pub numbers_of : Turn → List ℕ
+numbers_of (Read m) = numbers m
+numbers_of (Grow m) = numbers m
+numbers_of (Write m) = numbers m
+numbers_of (Done w) = zeros
+numbers_of (Refused c) = zeros
 
 -- the piece, at a write with what is to be written in place of what was read
 abbrev pub piece_of : Turn → List ℕ → List ℕ
@@ -38,20 +38,20 @@ piece_of (Refused c) p = p
 
 -- a machine is handed in with the beginning of a piece
 abbrev pub turn_of : Machine → List ℕ → Turn
-turn_of m p = step_of m (take (wantedOf m).length p)
+turn_of m p = step_of m (take (wanted_of m).length p)
 
 -- numbers that no machine has are left as they are, and so is the piece
-abbrev pub noMachine : Request
-noMachine = record { kind = 5; first = 0; second = 0 }
+abbrev pub no_machine : Request
+no_machine = record { kind = 5; first = 0; second = 0 }
 
-abbrev pub nextRequest : Loaded → List ℕ → Request
-nextRequest (Known m) p = requestOf (turn_of m p)
-nextRequest Unknown p = noMachine
+abbrev pub next_request : Loaded → List ℕ → Request
+next_request (Known m) p = request_of (turn_of m p)
+next_request Unknown p = no_machine
 
-abbrev pub nextNumbers : Loaded → List ℕ → List ℕ → List ℕ
-nextNumbers (Known m) ns p = numbersOf (turn_of m p)
-nextNumbers Unknown ns p = ns
+abbrev pub next_numbers : Loaded → List ℕ → List ℕ → List ℕ
+next_numbers (Known m) ns p = numbers_of (turn_of m p)
+next_numbers Unknown ns p = ns
 
-abbrev pub nextPiece : Loaded → List ℕ → List ℕ
-nextPiece (Known m) p = piece_of (turn_of m p) p
-nextPiece Unknown p = p
+abbrev pub next_piece : Loaded → List ℕ → List ℕ
+next_piece (Known m) p = piece_of (turn_of m p) p
+next_piece Unknown p = p

@@ -1,9 +1,9 @@
 // The log's work in pieces for callers of any language: the machine is 64 numbers, whatever they are, and what it asks for is three.
 ghost use Rattle.std.specs.Prelude.{◌≡◌, length as length_of, take};
-ghost use Rattle.vhdx_pieces.specs.Machines.{Sane, Kept, isDataOf, started};
+ghost use Rattle.vhdx_pieces.specs.Machines.{Sane, Kept, is_data_of, started};
 ghost use Rattle.vhdx_pieces_slots.specs.Loading.{loaded};
 ghost use Rattle.vhdx_slots.specs.Slots.{bit};
-ghost use Rattle.vhdx_pieces_calls.specs.Calls.{requestOf, numbersOf, piece_of, turn_of, nextRequest, nextNumbers, nextPiece};
+ghost use Rattle.vhdx_pieces_calls.specs.Calls.{request_of, numbers_of, piece_of, turn_of, next_request, next_numbers, next_piece};
 
 use vhdx_pieces::{Machine, Turn};
 use vhdx_pieces_slots::Loaded;
@@ -20,8 +20,8 @@ pub struct Request {
 
 // Of a file of this length, in this capacity.
 pub fn start(length: u64, capacity: u64, machine: &mut [u64; 64]) -> Request
-    ensures value { result ≡ requestOf (started length capacity) }
-    ensures machine_after { machine.new ≡ numbersOf (started length capacity) }
+    ensures value { result ≡ request_of (started length capacity) }
+    ensures machine_after { machine.new ≡ numbers_of (started length capacity) }
 {
     answer(vhdx_pieces::start(length, capacity), machine)
 }
@@ -29,9 +29,9 @@ pub fn start(length: u64, capacity: u64, machine: &mut [u64; 64]) -> Request
 // Handed in, after what it asked for: after a read the piece's first so many bytes are the file's. At a write its first 4,096 are what
 // is to be written.
 pub fn next(machine: &mut [u64; 64], piece: &mut [u8; 65536]) -> Request
-    ensures value { result ≡ nextRequest (loaded machine.old) piece.old }
-    ensures machine_after { machine.new ≡ nextNumbers (loaded machine.old) machine.old piece.old }
-    ensures piece_after { piece.new ≡ nextPiece (loaded machine.old) piece.old }
+    ensures value { result ≡ next_request (loaded machine.old) piece.old }
+    ensures machine_after { machine.new ≡ next_numbers (loaded machine.old) machine.old piece.old }
+    ensures piece_after { piece.new ≡ next_piece (loaded machine.old) piece.old }
 {
     match vhdx_pieces_slots::load(machine) {
         Loaded::Known(m) => {
@@ -86,8 +86,8 @@ fn first_sector(piece: &[u8; 65536]) -> [u8; 4096]
 // What is asked for; the machine is kept where it goes on.
 fn answer(turn: Turn, machine: &mut [u64; 64]) -> Request
     requires { Kept turn }
-    ensures value { result ≡ requestOf turn }
-    ensures machine_after { machine.new ≡ numbersOf turn }
+    ensures value { result ≡ request_of turn }
+    ensures machine_after { machine.new ≡ numbers_of turn }
 {
     match turn {
         Turn::Read(m) => {
@@ -135,7 +135,7 @@ fn answer(turn: Turn, machine: &mut [u64; 64]) -> Request
 }
 
 fn kind_of(m: Machine) -> u64
-    ensures { result ≡ bit (isDataOf m) }
+    ensures { result ≡ bit (is_data_of m) }
 {
     vhdx_slots::bit_of(vhdx_pieces::is_data(m))
 }

@@ -19,14 +19,14 @@ use Rattle.field.specs.Fields.{field}
 use Rattle.crc32c.specs.Crc.{ones, updates, crc, zeroed}
 use Rattle.crc32c.proofs.Laws.{updates-append, zeroed-append}
 use Rattle.vhdx_entry.specs.declared.Entry.{Entry}
-use Rattle.vhdx_entry.specs.Ring.{sectorAt}
-use Rattle.vhdx_entry.specs.Entry.{checksum, entryLength, tail, sequenceNumber, descriptorCount, descriptorSectors, descriptor, descriptorRule, descriptorsRule, dataBefore, dataCount, size, fitsRule, entryLengthRule, dataSectorRule, dataSectorsRule, checksumRule, headerRule, validEntry, contents}
+use Rattle.vhdx_entry.specs.Ring.{sector_at}
+use Rattle.vhdx_entry.specs.Entry.{checksum, entry_length, tail, sequence_number_of, descriptor_count, descriptor_sectors, descriptor, descriptor_rule, descriptors_rule, data_before, data_count, size, fits_rule, entry_length_rule, data_sector_rule, data_sectors_rule, checksum_rule, header_rule, valid_entry, contents}
 use Rattle.vhdx_entry.proofs.Laws.{sector-next, field-of-sector}
-use Rattle.vhdx_pieces_entry.specs.Sector.{passes, dataIn}
+use Rattle.vhdx_pieces_entry.specs.Sector.{passes, data_in}
 use Rattle.vhdx_pieces_entry.specs.declared.Reading.{Reading}
 use Rattle.vhdx_pieces_entry.specs.declared.Progress.{Progress}
 use Rattle.vhdx_pieces_entry.specs.declared.Progress.TheVariants.{More, Valid, Empty}
-use Rattle.vhdx_pieces_entry.specs.Pass.{ended, closed, going, settled, fromOf, placesIn, stateOn, past, onFront, onData, further, beginning, first, Reads, stop, next, ReadsEntry}
+use Rattle.vhdx_pieces_entry.specs.Pass.{ended, closed, going, settled, from_of, places_in, state_on, past, on_front, on_data, further, beginning, first, Reads, stop, next, ReadsEntry}
 use Rattle.vhdx_pieces_entry.proofs.Split.{rules-split, data-split}
 
 left-no : (a b : Bool) → a ≡ false → a && b ≡ false
@@ -82,26 +82,26 @@ by P false f g = g refl
 abbrev pub seen_at : ℕ → ℕ → ℕ
 seen_at c k = min c (128 * k - 2)
 
-stateAt : List ℕ → ℕ → ℕ
-stateAt r zero = 0
-stateAt r (suc k) = updates ones (zeroed (take (suc k * 4096) r) 4)
+state_at : List ℕ → ℕ → ℕ
+state_at r zero = 0
+state_at r (suc k) = updates ones (zeroed (take (suc k * 4096) r) 4)
 
 abbrev at : List ℕ → ℕ → Reading
 at r k =
     record {
-      number = sequenceNumber r;
+      number = sequence_number_of r;
       tail = tail r / 4096;
-      count = descriptorCount r;
-      bytes = entryLength r;
+      count = descriptor_count r;
+      bytes = entry_length r;
       sum = checksum r;
-      seen = seen_at (descriptorCount r) k;
-      found = dataBefore r (seen_at (descriptorCount r) k);
+      seen = seen_at (descriptor_count r) k;
+      found = data_before r (seen_at (descriptor_count r) k);
       read = k;
-      state = stateAt r k;
+      state = state_at r k;
     }
 
-state-next : (r : List ℕ) (k : ℕ) → suc k * 4096 ≤ length r → stateOn k (stateAt r k) (sectorAt r k) ≡ stateAt r (k + 1)
-unfolding stateAt sectorAt
+state-next : (r : List ℕ) (k : ℕ) → suc k * 4096 ≤ length r → state_on k (state_at r k) (sector_at r k) ≡ state_at r (k + 1)
+unfolding state_at sector_at
 state-next r zero h = refl
 state-next r (suc k) h =
     let long = length-take-le (suc k * 4096) r (omega arith) in
@@ -109,25 +109,25 @@ state-next r (suc k) h =
     (sym
     (ap (λ (n : ℕ). updates ones (zeroed (take (n * 4096) r) 4)) (sym (add-one (suc k)))
     ∙ ap (λ (x : List ℕ). updates ones (zeroed x 4)) (sector-next r (suc k))
-    ∙ ap (updates ones) (zeroed-append (take (suc k * 4096) r) (sectorAt r (suc k)) 4 (omega arith))
-    ∙ updates-append ones (zeroed (take (suc k * 4096) r) 4) (sectorAt r (suc k))))
+    ∙ ap (updates ones) (zeroed-append (take (suc k * 4096) r) (sector_at r (suc k)) 4 (omega arith))
+    ∙ updates-append ones (zeroed (take (suc k * 4096) r) 4) (sector_at r (suc k))))
 
-state-is : (r : List ℕ) (k : ℕ) → 0 < k → stateAt r k ≡ updates ones (zeroed (take (k * 4096) r) 4)
-unfolding stateAt
+state-is : (r : List ℕ) (k : ℕ) → 0 < k → state_at r k ≡ updates ones (zeroed (take (k * 4096) r) 4)
+unfolding state_at
 state-is r zero h = absurd (omega arith)
 state-is r (suc k) h = refl
 
 -- past a sector with so many descriptors, so many of them data descriptors
-past_is : (r : List ℕ) (k m d : ℕ) → suc k * 4096 ≤ length r → seen_at (descriptorCount r) k + m ≡ seen_at (descriptorCount r) (k + 1)
-    → dataBefore r (seen_at (descriptorCount r) k) + d ≡ dataBefore r (seen_at (descriptorCount r) (k + 1))
-    → past (at r k) m d (sectorAt r k) ≡ at r (k + 1)
+past_is : (r : List ℕ) (k m d : ℕ) → suc k * 4096 ≤ length r → seen_at (descriptor_count r) k + m ≡ seen_at (descriptor_count r) (k + 1)
+    → data_before r (seen_at (descriptor_count r) k) + d ≡ data_before r (seen_at (descriptor_count r) (k + 1))
+    → past (at r k) m d (sector_at r k) ≡ at r (k + 1)
 past_is r k m d h p q =
     let t = state-next r k h in
     λ i. record {
-      number = sequenceNumber r;
+      number = sequence_number_of r;
       tail = tail r / 4096;
-      count = descriptorCount r;
-      bytes = entryLength r;
+      count = descriptor_count r;
+      bytes = entry_length r;
       sum = checksum r;
       seen = p i;
       found = q i;
@@ -136,18 +136,18 @@ past_is r k m d h p q =
     }
 
 -- the descriptors of sector k: from where, how many
-pub begins-at : (c k : ℕ) → k < descriptorSectors c → 64 + 32 * seen_at c k ≡ k * 4096 + fromOf k
+pub begins-at : (c k : ℕ) → k < descriptor_sectors c → 64 + 32 * seen_at c k ≡ k * 4096 + from_of k
 begins-at c zero h = omega arith
 begins-at c (suc k) h = rw (eqb-suc-zero k) (omega arith)
 
-pub all_seen : (c k : ℕ) → descriptorSectors c ≤ k → seen_at c k ≡ c
+pub all_seen : (c k : ℕ) → descriptor_sectors c ≤ k → seen_at c k ≡ c
 all_seen c k h = omega arith
 
-pub fits_in : (c k : ℕ) → fromOf k + 32 * min (c - seen_at c k) (placesIn k) ≤ 4096
+pub fits_in : (c k : ℕ) → from_of k + 32 * min (c - seen_at c k) (places_in k) ≤ 4096
 fits_in c zero = omega arith
 fits_in c (suc k) = rw (eqb-suc-zero k) (omega arith)
 
-pub seen_next : (c k : ℕ) → seen_at c k + min (c - seen_at c k) (placesIn k) ≡ seen_at c (k + 1)
+pub seen_next : (c k : ℕ) → seen_at c k + min (c - seen_at c k) (places_in k) ≡ seen_at c (k + 1)
 seen_next c zero = omega arith
 seen_next c (suc k) = rw (eqb-suc-zero k) (omega arith)
 
@@ -155,42 +155,42 @@ seen_next c (suc k) = rw (eqb-suc-zero k) (omega arith)
 abbrev done : List ℕ → ℕ → Reading
 done r k =
     record {
-      number = sequenceNumber r;
+      number = sequence_number_of r;
       tail = tail r / 4096;
-      count = descriptorCount r;
-      bytes = entryLength r;
+      count = descriptor_count r;
+      bytes = entry_length r;
       sum = checksum r;
-      seen = descriptorCount r;
-      found = dataCount r;
+      seen = descriptor_count r;
+      found = data_count r;
       read = k;
-      state = stateAt r k;
+      state = state_at r k;
     }
 
-at_done : (r : List ℕ) (k : ℕ) → descriptorSectors (descriptorCount r) ≤ k → at r k ≡ done r k
+at_done : (r : List ℕ) (k : ℕ) → descriptor_sectors (descriptor_count r) ≤ k → at r k ≡ done r k
 at_done r k h =
-    let e = all_seen (descriptorCount r) k h in
+    let e = all_seen (descriptor_count r) k h in
     λ i. record {
-      number = sequenceNumber r;
+      number = sequence_number_of r;
       tail = tail r / 4096;
-      count = descriptorCount r;
-      bytes = entryLength r;
+      count = descriptor_count r;
+      bytes = entry_length r;
       sum = checksum r;
       seen = e i;
-      found = dataBefore r (e i);
+      found = data_before r (e i);
       read = k;
-      state = stateAt r k;
+      state = state_at r k;
     }
 
-done_next : (r : List ℕ) (k : ℕ) → suc k * 4096 ≤ length r → past (done r k) 0 0 (sectorAt r k) ≡ done r (k + 1)
+done_next : (r : List ℕ) (k : ℕ) → suc k * 4096 ≤ length r → past (done r k) 0 0 (sector_at r k) ≡ done r (k + 1)
 done_next r k h =
     let t = state-next r k h in
-    let p = add-zero (descriptorCount r) in
-    let q = add-zero (dataCount r) in
+    let p = add-zero (descriptor_count r) in
+    let q = add-zero (data_count r) in
     λ i. record {
-      number = sequenceNumber r;
+      number = sequence_number_of r;
       tail = tail r / 4096;
-      count = descriptorCount r;
-      bytes = entryLength r;
+      count = descriptor_count r;
+      bytes = entry_length r;
       sum = checksum r;
       seen = p i;
       found = q i;
@@ -198,145 +198,145 @@ done_next r k h =
       state = t i;
     }
 
-module _ (guid : Guid) (n : ℕ) (r : List ℕ) (len : length r ≡ n * 4096) (head : headerRule guid (length r) r ≡ true) where
+module _ (guid : Guid) (n : ℕ) (r : List ℕ) (len : length r ≡ n * 4096) (head : header_rule guid (length r) r ≡ true) where
   abbrev answer : Option Entry
-  answer = only_if (validEntry guid r) (contents r)
+  answer = only_if (valid_entry guid r) (contents r)
 
-  refuted : validEntry guid r ≡ false → Reads n r Empty answer
+  refuted : valid_entry guid r ≡ false → Reads n r Empty answer
   refuted e = subst (λ (b : Bool). Reads n r Empty (only_if b (contents r))) (sym e) (stop {o = none})
 
   -- the clauses behind the header's
-  no-fit : fitsRule r ≡ false → validEntry guid r ≡ false
-  unfolding validEntry
-  no-fit h = no2 (headerRule guid (length r) r) (fitsRule r) _ h
+  no-fit : fits_rule r ≡ false → valid_entry guid r ≡ false
+  unfolding valid_entry
+  no-fit h = no2 (header_rule guid (length r) r) (fits_rule r) _ h
 
-  no-descriptors : descriptorsRule r ≡ false → validEntry guid r ≡ false
-  unfolding validEntry
-  no-descriptors h = no3 (headerRule guid (length r) r) (fitsRule r) (descriptorsRule r) _ h
+  no-descriptors : descriptors_rule r ≡ false → valid_entry guid r ≡ false
+  unfolding valid_entry
+  no-descriptors h = no3 (header_rule guid (length r) r) (fits_rule r) (descriptors_rule r) _ h
 
-  no_length : entryLengthRule r ≡ false → validEntry guid r ≡ false
-  unfolding validEntry
-  no_length h = no4 (headerRule guid (length r) r) (fitsRule r) (descriptorsRule r) (entryLengthRule r) _ h
+  no_length : entry_length_rule r ≡ false → valid_entry guid r ≡ false
+  unfolding valid_entry
+  no_length h = no4 (header_rule guid (length r) r) (fits_rule r) (descriptors_rule r) (entry_length_rule r) _ h
 
-  no-sectors : dataSectorsRule r ≡ false → validEntry guid r ≡ false
-  unfolding validEntry
-  no-sectors h = no5 (headerRule guid (length r) r) (fitsRule r) (descriptorsRule r) (entryLengthRule r) (dataSectorsRule r) _ h
+  no-sectors : data_sectors_rule r ≡ false → valid_entry guid r ≡ false
+  unfolding valid_entry
+  no-sectors h = no5 (header_rule guid (length r) r) (fits_rule r) (descriptors_rule r) (entry_length_rule r) (data_sectors_rule r) _ h
 
-  module _ (fits : size r ≤ n) (exact : entryLength r ≡ size r * 4096) (kept : descriptorsRule r ≡ true) where
-    is-valid : dataSectorsRule r ≡ true → validEntry guid r ≡ checksumRule r
-    unfolding validEntry
-    is-valid h = all5 (headerRule guid (length r) r) (fitsRule r) (descriptorsRule r) (entryLengthRule r) (dataSectorsRule r) (checksumRule r) head (le-leb (size r * 4096) (length r) (omega arith)) kept (eq-eqb (entryLength r) (size r * 4096) exact) h
+  module _ (fits : size r ≤ n) (exact : entry_length r ≡ size r * 4096) (kept : descriptors_rule r ≡ true) where
+    is-valid : data_sectors_rule r ≡ true → valid_entry guid r ≡ checksum_rule r
+    unfolding valid_entry
+    is-valid h = all5 (header_rule guid (length r) r) (fits_rule r) (descriptors_rule r) (entry_length_rule r) (data_sectors_rule r) (checksum_rule r) head (le-leb (size r * 4096) (length r) (omega arith)) kept (eq-eqb (entry_length r) (size r * 4096) exact) h
 
-    settled_on : (k : ℕ) → descriptorSectors (descriptorCount r) ≤ k → settled n (done r k) ≡ going (done r k)
+    settled_on : (k : ℕ) → descriptor_sectors (descriptor_count r) ≤ k → settled n (done r k) ≡ going (done r k)
     unfolding settled
-    settled_on k h = rw (le-ltb k (descriptorSectors (descriptorCount r)) h, le-leb (size r) n fits, eq-eqb (entryLength r) (size r * 4096) exact)
+    settled_on k h = rw (le-ltb k (descriptor_sectors (descriptor_count r)) h, le-leb (size r) n fits, eq-eqb (entry_length r) (size r * 4096) exact)
 
-    abbrev sectorRule : ℕ → Bool
-    sectorRule i = dataSectorRule (sequenceNumber r) (sectorAt r (descriptorSectors (descriptorCount r) + i))
+    abbrev sector_rule : ℕ → Bool
+    sector_rule i = data_sector_rule (sequence_number_of r) (sector_at r (descriptor_sectors (descriptor_count r) + i))
 
-    at-sector : (k : ℕ) → descriptorSectors (descriptorCount r) ≤ k → sectorRule (k - descriptorSectors (descriptorCount r)) ≡ dataSectorRule (sequenceNumber r) (sectorAt r k)
-    at-sector k f = ap (λ (j : ℕ). dataSectorRule (sequenceNumber r) (sectorAt r j)) (omega arith)
+    at-sector : (k : ℕ) → descriptor_sectors (descriptor_count r) ≤ k → sector_rule (k - descriptor_sectors (descriptor_count r)) ≡ data_sector_rule (sequence_number_of r) (sector_at r k)
+    at-sector k f = ap (λ (j : ℕ). data_sector_rule (sequence_number_of r) (sector_at r j)) (omega arith)
 
     -- at its end
-    summed : (k : ℕ) → size r ≡ k → 0 < k → checksumRule r ≡ eqb (checksum r) (bit_xor (stateAt r k) ones)
-    unfolding checksumRule crc
+    summed : (k : ℕ) → size r ≡ k → 0 < k → checksum_rule r ≡ eqb (checksum r) (bit_xor (state_at r k) ones)
+    unfolding checksum_rule crc
     summed k e h =
         ap (λ (x : ℕ). eqb (checksum r) (bit_xor (updates ones (zeroed (take x r) 4)) ones)) (exact ∙ ap (λ (x : ℕ). x * 4096) e)
         ∙ ap (λ (x : ℕ). eqb (checksum r) (bit_xor x ones)) (sym (state-is r k h))
 
-    data-end : (k : ℕ) → size r ≡ k → dataSectorsRule r ≡ true → Reads n r (closed (done r k) (size r)) answer
+    data-end : (k : ℕ) → size r ≡ k → data_sectors_rule r ≡ true → Reads n r (closed (done r k) (size r)) answer
     unfolding closed
-    data-end k e h = subst (λ (x : Progress). Reads n r x answer) (shut (validEntry guid r) (contents r) (is-valid h ∙ summed k e (omega arith))) (stop {o = answer})
+    data-end k e h = subst (λ (x : Progress). Reads n r x answer) (shut (valid_entry guid r) (contents r) (is-valid h ∙ summed k e (omega arith))) (stop {o = answer})
       where
         shut : (b : Bool) (e : Entry) {c : Bool} → b ≡ c → ended (only_if b e) ≡ cond c (Valid e) Empty
         shut true e p = rw (← p)
         shut false e p = rw (← p)
 
-    turn-data : (k : ℕ) → descriptorSectors (descriptorCount r) ≤ k
-        → Reads n r (cond (dataSectorRule (sequenceNumber r) (sectorAt r k)) (settled n (past (done r k) 0 0 (sectorAt r k))) Empty) answer
+    turn-data : (k : ℕ) → descriptor_sectors (descriptor_count r) ≤ k
+        → Reads n r (cond (data_sector_rule (sequence_number_of r) (sector_at r k)) (settled n (past (done r k) 0 0 (sector_at r k))) Empty) answer
         → Reads n r (More (done r k)) answer
-    unfolding further onData
-    turn-data k f h = next {x = done r k} {o = answer} (rw (le-ltb k (descriptorSectors (descriptorCount r)) f) h)
+    unfolding further on_data
+    turn-data k f h = next {x = done r k} {o = answer} (rw (le-ltb k (descriptor_sectors (descriptor_count r)) f) h)
 
-    data-phase : (d k : ℕ) → size r ≡ k + d → descriptorSectors (descriptorCount r) ≤ k
-        → every (k - descriptorSectors (descriptorCount r)) sectorRule ≡ true → Reads n r (going (done r k)) answer
-    unfolding dataSectorsRule
+    data-phase : (d k : ℕ) → size r ≡ k + d → descriptor_sectors (descriptor_count r) ≤ k
+        → every (k - descriptor_sectors (descriptor_count r)) sector_rule ≡ true → Reads n r (going (done r k)) answer
+    unfolding data_sectors_rule
     data-phase zero k e f h =
-        let all : k - descriptorSectors (descriptorCount r) ≡ dataCount r = omega arith in
-        rw (le-ltb k (size r) (omega arith)) (data-end k (omega arith) (sym (ap (λ (m : ℕ). every m sectorRule) all) ∙ h))
+        let all : k - descriptor_sectors (descriptor_count r) ≡ data_count r = omega arith in
+        rw (le-ltb k (size r) (omega arith)) (data-end k (omega arith) (sym (ap (λ (m : ℕ). every m sector_rule) all) ∙ h))
     data-phase (suc d) k e f h =
         rw (lt-ltb k (size r) (omega arith))
         (turn-data k f
-        (by (λ b. Reads n r (cond b (settled n (past (done r k) 0 0 (sectorAt r k))) Empty) answer) (dataSectorRule (sequenceNumber r) (sectorAt r k))
+        (by (λ b. Reads n r (cond b (settled n (past (done r k) 0 0 (sector_at r k))) Empty) answer) (data_sector_rule (sequence_number_of r) (sector_at r k))
         (λ t. subst (λ (x : Reading). Reads n r (settled n x) answer) (sym (done_next r k (omega arith)))
         (subst (λ (p : Progress). Reads n r p answer) (sym (settled_on (k + 1) (omega arith)))
         (data-phase d (k + 1) (omega arith) (omega arith)
-        (ap (λ (m : ℕ). every m sectorRule) {x = k + 1 - descriptorSectors (descriptorCount r)} {y = k - descriptorSectors (descriptorCount r) + 1} (omega arith)
-        ∙ every_more sectorRule (k - descriptorSectors (descriptorCount r)) h (at-sector k f ∙ t)))))
-        (λ t. refuted (no-sectors (every-not sectorRule (k - descriptorSectors (descriptorCount r)) (dataCount r) (omega arith) (at-sector k f ∙ t))))))
+        (ap (λ (m : ℕ). every m sector_rule) {x = k + 1 - descriptor_sectors (descriptor_count r)} {y = k - descriptor_sectors (descriptor_count r) + 1} (omega arith)
+        ∙ every_more sector_rule (k - descriptor_sectors (descriptor_count r)) h (at-sector k f ∙ t)))))
+        (λ t. refuted (no-sectors (every-not sector_rule (k - descriptor_sectors (descriptor_count r)) (data_count r) (omega arith) (at-sector k f ∙ t))))))
 
   abbrev rule : ℕ → Bool
-  rule i = descriptorRule (sequenceNumber r) (descriptor r i)
+  rule i = descriptor_rule (sequence_number_of r) (descriptor r i)
 
   -- all descriptors are seen
-  front-end : (k : ℕ) → descriptorSectors (descriptorCount r) ≡ k → descriptorsRule r ≡ true → Reads n r (settled n (done r k)) answer
+  front-end : (k : ℕ) → descriptor_sectors (descriptor_count r) ≡ k → descriptors_rule r ≡ true → Reads n r (settled n (done r k)) answer
   unfolding settled every
   front-end k e kept =
-      rw (le-ltb k (descriptorSectors (descriptorCount r)) (omega arith))
-      (by (λ b. Reads n r (cond b (going (done r k)) Empty) answer) (leb (size r) n && eqb (entryLength r) (size r * 4096))
+      rw (le-ltb k (descriptor_sectors (descriptor_count r)) (omega arith))
+      (by (λ b. Reads n r (cond b (going (done r k)) Empty) answer) (leb (size r) n && eqb (entry_length r) (size r * 4096))
       (λ t. data-phase
-      (leb-true (size r) n (fst (leb (size r) n) (eqb (entryLength r) (size r * 4096)) t))
-      (eqb-true (entryLength r) (size r * 4096) (snd (leb (size r) n) (eqb (entryLength r) (size r * 4096)) t))
-      kept (dataCount r) k (omega arith) (omega arith)
-      (ap (λ (m : ℕ). every m (λ i. dataSectorRule (sequenceNumber r) (sectorAt r (descriptorSectors (descriptorCount r) + i)))) {x = k - descriptorSectors (descriptorCount r)} {y = 0} (omega arith)))
+      (leb-true (size r) n (fst (leb (size r) n) (eqb (entry_length r) (size r * 4096)) t))
+      (eqb-true (entry_length r) (size r * 4096) (snd (leb (size r) n) (eqb (entry_length r) (size r * 4096)) t))
+      kept (data_count r) k (omega arith) (omega arith)
+      (ap (λ (m : ℕ). every m (λ i. data_sector_rule (sequence_number_of r) (sector_at r (descriptor_sectors (descriptor_count r) + i)))) {x = k - descriptor_sectors (descriptor_count r)} {y = 0} (omega arith)))
       (λ t. refuted (unfit t)))
     where
-      unfit : leb (size r) n && eqb (entryLength r) (size r * 4096) ≡ false → validEntry guid r ≡ false
+      unfit : leb (size r) n && eqb (entry_length r) (size r * 4096) ≡ false → valid_entry guid r ≡ false
       unfit t =
-          by (λ b. leb (size r) n ≡ b → validEntry guid r ≡ false) (leb (size r) n)
-          (λ _ g. no_length (sym (ap (λ (x : Bool). x && eqb (entryLength r) (size r * 4096)) g) ∙ t))
+          by (λ b. leb (size r) n ≡ b → valid_entry guid r ≡ false) (leb (size r) n)
+          (λ _ g. no_length (sym (ap (λ (x : Bool). x && eqb (entry_length r) (size r * 4096)) g) ∙ t))
           (λ _ g. no-fit (lt-leb (size r * 4096) (length r) (omega (arith, leb-false (size r) n g)))) refl
 
   -- a sector with descriptors
-  turn-front : (k : ℕ) → k < descriptorSectors (descriptorCount r) → descriptorSectors (descriptorCount r) ≤ n → every (seen_at (descriptorCount r) k) rule ≡ true
-      → (every (seen_at (descriptorCount r) (k + 1)) rule ≡ true → Reads n r (settled n (at r (k + 1))) answer)
-      → Reads n r (onFront n (at r k) (sectorAt r k)) answer
-  unfolding onFront descriptorsRule
+  turn-front : (k : ℕ) → k < descriptor_sectors (descriptor_count r) → descriptor_sectors (descriptor_count r) ≤ n → every (seen_at (descriptor_count r) k) rule ≡ true
+      → (every (seen_at (descriptor_count r) (k + 1)) rule ≡ true → Reads n r (settled n (at r (k + 1))) answer)
+      → Reads n r (on_front n (at r k) (sector_at r k)) answer
+  unfolding on_front descriptors_rule
   turn-front k h fits kept go =
-      let c = descriptorCount r in
-      let m = min (c - seen_at c k) (placesIn k) in
+      let c = descriptor_count r in
+      let m = min (c - seen_at c k) (places_in k) in
       let starts = begins-at c k h in
-      let all : every (seen_at c (k + 1)) rule ≡ passes (sequenceNumber r) (sectorAt r k) (fromOf k) m =
-      ap (λ (x : ℕ). every x rule) (sym (seen_next c k)) ∙ rules-split r k (seen_at c k) (fromOf k) starts (sequenceNumber r) m (fits_in c k)
-      ∙ ap (λ (b : Bool). b && passes (sequenceNumber r) (sectorAt r k) (fromOf k) m) kept in
-      by (λ b. Reads n r (cond b (settled n (past (at r k) m (dataIn (sectorAt r k) (fromOf k) m) (sectorAt r k))) Empty) answer)
-      (passes (sequenceNumber r) (sectorAt r k) (fromOf k) m)
+      let all : every (seen_at c (k + 1)) rule ≡ passes (sequence_number_of r) (sector_at r k) (from_of k) m =
+      ap (λ (x : ℕ). every x rule) (sym (seen_next c k)) ∙ rules-split r k (seen_at c k) (from_of k) starts (sequence_number_of r) m (fits_in c k)
+      ∙ ap (λ (b : Bool). b && passes (sequence_number_of r) (sector_at r k) (from_of k) m) kept in
+      by (λ b. Reads n r (cond b (settled n (past (at r k) m (data_in (sector_at r k) (from_of k) m) (sector_at r k))) Empty) answer)
+      (passes (sequence_number_of r) (sector_at r k) (from_of k) m)
       (λ t. subst (λ (x : Reading). Reads n r (settled n x) answer)
-      (sym (past_is r k m (dataIn (sectorAt r k) (fromOf k) m) (omega arith) (seen_next c k)
-      (sym (data-split r k (seen_at c k) (fromOf k) starts m (fits_in c k)) ∙ ap (dataBefore r) (seen_next c k))))
+      (sym (past_is r k m (data_in (sector_at r k) (from_of k) m) (omega arith) (seen_next c k)
+      (sym (data-split r k (seen_at c k) (from_of k) starts m (fits_in c k)) ∙ ap (data_before r) (seen_next c k))))
       (go (all ∙ t)))
       (λ t. refuted (no-descriptors (every-no rule (seen_at c (k + 1)) c (omega arith) (all ∙ t))))
 
-  front-phase : (d k : ℕ) → descriptorSectors (descriptorCount r) ≡ k + d → descriptorSectors (descriptorCount r) ≤ n
-      → every (seen_at (descriptorCount r) k) rule ≡ true → Reads n r (settled n (at r k)) answer
-  unfolding settled further descriptorsRule
+  front-phase : (d k : ℕ) → descriptor_sectors (descriptor_count r) ≡ k + d → descriptor_sectors (descriptor_count r) ≤ n
+      → every (seen_at (descriptor_count r) k) rule ≡ true → Reads n r (settled n (at r k)) answer
+  unfolding settled further descriptors_rule
   front-phase zero k e fits kept =
       subst (λ (x : Reading). Reads n r (settled n x) answer) (sym (at_done r k (omega arith)))
-      (front-end k (omega arith) (sym (ap (λ (m : ℕ). every m rule) (all_seen (descriptorCount r) k (omega arith))) ∙ kept))
+      (front-end k (omega arith) (sym (ap (λ (m : ℕ). every m rule) (all_seen (descriptor_count r) k (omega arith))) ∙ kept))
   front-phase (suc d) k e fits kept =
-      rw (lt-ltb k (descriptorSectors (descriptorCount r)) (omega arith))
+      rw (lt-ltb k (descriptor_sectors (descriptor_count r)) (omega arith))
       (next {x = at r k} {o = answer}
-      (rw (lt-ltb k (descriptorSectors (descriptorCount r)) (omega arith))
+      (rw (lt-ltb k (descriptor_sectors (descriptor_count r)) (omega arith))
       (turn-front k (omega arith) fits kept (front-phase d (k + 1) (omega arith) fits))))
 
 -- the first sector is read as the header, whose fields are the entry's
-header-field : (r : List ℕ) (j w : ℕ) → j + w ≤ 4096 → field (sectorAt r 0) j w ≡ field r j w
+header-field : (r : List ℕ) (j w : ℕ) → j + w ≤ 4096 → field (sector_at r 0) j w ≡ field r j w
 header-field r j w h = field-of-sector r 0 j w h ∙ ap (λ (x : ℕ). field r x w) {x = 0 * 4096 + j} {y = j} (omega arith)
 
-begin-is : (r : List ℕ) → beginning (sectorAt r 0) ≡ at r 0
-unfolding dataBefore stateAt
+begin-is : (r : List ℕ) → beginning (sector_at r 0) ≡ at r 0
+unfolding data_before state_at
 begin-is r =
-    let none_seen : 0 ≡ seen_at (descriptorCount r) 0 = omega arith in
+    let none_seen : 0 ≡ seen_at (descriptor_count r) 0 = omega arith in
     let e1 = header-field r 16 8 (lit≤ tt) in
     let e2 = header-field r 12 4 (lit≤ tt) in
     let e3 = header-field r 24 4 (lit≤ tt) in
@@ -349,44 +349,44 @@ begin-is r =
       bytes = e4 i;
       sum = e5 i;
       seen = none_seen i;
-      found = dataBefore r (none_seen i);
+      found = data_before r (none_seen i);
       read = 0;
       state = 0;
     }
 
-header_is : (guid : Guid) (n : ℕ) (r : List ℕ) → headerRule guid n (sectorAt r 0) ≡ headerRule guid n r
-unfolding headerRule
+header_is : (guid : Guid) (n : ℕ) (r : List ℕ) → header_rule guid n (sector_at r 0) ≡ header_rule guid n r
+unfolding header_rule
 header_is guid n r = simp (header-field r 0 4 (lit≤ tt), header-field r 32 16 (lit≤ tt), header-field r 12 4 (lit≤ tt), header-field r 16 8 (lit≤ tt))
 
 tests-are : (guid : Guid) (n : ℕ) (r : List ℕ) → length r ≡ n * 4096
-    → headerRule guid (n * 4096) (sectorAt r 0) && leb (descriptorSectors (descriptorCount (sectorAt r 0))) n
-    ≡ headerRule guid (length r) r && leb (descriptorSectors (descriptorCount r)) n
+    → header_rule guid (n * 4096) (sector_at r 0) && leb (descriptor_sectors (descriptor_count (sector_at r 0))) n
+    ≡ header_rule guid (length r) r && leb (descriptor_sectors (descriptor_count r)) n
 tests-are guid n r len =
-    ap (λ (b : Bool). b && leb (descriptorSectors (descriptorCount (sectorAt r 0))) n) (header_is guid (n * 4096) r ∙ ap (λ (x : ℕ). headerRule guid x r) (sym len))
-    ∙ ap (λ (x : ℕ). headerRule guid (length r) r && leb (descriptorSectors x) n) (header-field r 24 4 (lit≤ tt))
+    ap (λ (b : Bool). b && leb (descriptor_sectors (descriptor_count (sector_at r 0))) n) (header_is guid (n * 4096) r ∙ ap (λ (x : ℕ). header_rule guid x r) (sym len))
+    ∙ ap (λ (x : ℕ). header_rule guid (length r) r && leb (descriptor_sectors x) n) (header-field r 24 4 (lit≤ tt))
 
 refused-at-once : (guid : Guid) (n : ℕ) (r : List ℕ) → length r ≡ n * 4096
-    → headerRule guid (length r) r && leb (descriptorSectors (descriptorCount r)) n ≡ false → validEntry guid r ≡ false
-unfolding validEntry
+    → header_rule guid (length r) r && leb (descriptor_sectors (descriptor_count r)) n ≡ false → valid_entry guid r ≡ false
+unfolding valid_entry
 refused-at-once guid n r len t =
-    by (λ b. headerRule guid (length r) r ≡ b → validEntry guid r ≡ false) (headerRule guid (length r) r)
+    by (λ b. header_rule guid (length r) r ≡ b → valid_entry guid r ≡ false) (header_rule guid (length r) r)
     (λ _ g.
-    let long : n < descriptorSectors (descriptorCount r) = leb-false (descriptorSectors (descriptorCount r)) n (sym (ap (λ (b : Bool). b && leb (descriptorSectors (descriptorCount r)) n) g) ∙ t) in
-    no2 (headerRule guid (length r) r) (fitsRule r) _ (lt-leb (size r * 4096) (length r) (omega arith)))
-    (λ _ g. left-no (headerRule guid (length r) r) _ g) refl
+    let long : n < descriptor_sectors (descriptor_count r) = leb-false (descriptor_sectors (descriptor_count r)) n (sym (ap (λ (b : Bool). b && leb (descriptor_sectors (descriptor_count r)) n) g) ∙ t) in
+    no2 (header_rule guid (length r) r) (fits_rule r) _ (lt-leb (size r * 4096) (length r) (omega arith)))
+    (λ _ g. left-no (header_rule guid (length r) r) _ g) refl
 
 pub reads-entry : ReadsEntry
 unfolding first every
 reads-entry guid n r some-sectors len =
-    let c = descriptorCount r in
-    by (λ b. Reads n r (cond b (onFront n (beginning (sectorAt r 0)) (sectorAt r 0)) Empty) (only_if (validEntry guid r) (contents r)))
-    (headerRule guid (n * 4096) (sectorAt r 0) && leb (descriptorSectors (descriptorCount (sectorAt r 0))) n)
+    let c = descriptor_count r in
+    by (λ b. Reads n r (cond b (on_front n (beginning (sector_at r 0)) (sector_at r 0)) Empty) (only_if (valid_entry guid r) (contents r)))
+    (header_rule guid (n * 4096) (sector_at r 0) && leb (descriptor_sectors (descriptor_count (sector_at r 0))) n)
     (λ t.
     let u = sym (tests-are guid n r len) ∙ t in
-    let head : headerRule guid (length r) r ≡ true = fst (headerRule guid (length r) r) (leb (descriptorSectors c) n) u in
-    let fits : descriptorSectors c ≤ n = leb-true (descriptorSectors c) n (snd (headerRule guid (length r) r) (leb (descriptorSectors c) n) u) in
-    subst (λ (x : Reading). Reads n r (onFront n x (sectorAt r 0)) (only_if (validEntry guid r) (contents r))) (sym (begin-is r))
+    let head : header_rule guid (length r) r ≡ true = fst (header_rule guid (length r) r) (leb (descriptor_sectors c) n) u in
+    let fits : descriptor_sectors c ≤ n = leb-true (descriptor_sectors c) n (snd (header_rule guid (length r) r) (leb (descriptor_sectors c) n) u) in
+    subst (λ (x : Reading). Reads n r (on_front n x (sector_at r 0)) (only_if (valid_entry guid r) (contents r))) (sym (begin-is r))
     (turn-front guid n r len head 0 (omega arith) fits
-    (ap (λ (m : ℕ). every m (λ i. descriptorRule (sequenceNumber r) (descriptor r i))) {x = seen_at c 0} {y = 0} (omega arith))
-    (front-phase guid n r len head (descriptorSectors c - 1) 1 (omega arith) fits)))
+    (ap (λ (m : ℕ). every m (λ i. descriptor_rule (sequence_number_of r) (descriptor r i))) {x = seen_at c 0} {y = 0} (omega arith))
+    (front-phase guid n r len head (descriptor_sectors c - 1) 1 (omega arith) fits)))
     (λ t. subst (λ (b : Bool). Reads n r Empty (only_if b (contents r))) (sym (refused-at-once guid n r len (sym (tests-are guid n r len) ∙ t))) (stop {o = none}))

@@ -4,7 +4,7 @@
 pub mod sector;
 
 ghost use Rattle.std.specs.Prelude.{◌≡◌, ◌+◌, ◌≤◌, ◌<◌, min, length};
-ghost use Rattle.vhdx_pieces_entry.specs.Pass.{Sane, Kept, Sized, beginning, past as past_of, stateOn, fromOf, placesIn, closed as closedOf, settled as settledOn, onFront, onData, further as furtherOn, first as first_of};
+ghost use Rattle.vhdx_pieces_entry.specs.Pass.{Sane, Kept, Sized, beginning, past as past_of, state_on, from_of, places_in, closed as closed_of, settled as settled_on_all, on_front, on_data, further as further_on, first as first_of};
 
 use vhdx_entry::body::Tally;
 use vhdx_entry::{Entry, body, descriptor, header};
@@ -67,7 +67,7 @@ fn begin(s: &[u8]) -> Reading
 // The next sector.
 pub fn further(x: Reading, s: &[u8], n: usize) -> Progress
     requires { (length s.now ≡ 4096) × (n < 33554432) × Sane n x }
-    ensures value { result ≡ furtherOn n x s.now }
+    ensures value { result ≡ further_on n x s.now }
     ensures kept { Kept n result }
 {
     if x.read < descriptor::sectors(x.count) {
@@ -80,7 +80,7 @@ pub fn further(x: Reading, s: &[u8], n: usize) -> Progress
 // A sector with descriptors.
 fn on_front(x: Reading, s: &[u8], n: usize) -> Progress
     requires { (length s.now ≡ 4096) × (n < 33554432) × Sane n x }
-    ensures { result ≡ onFront n x s.now }
+    ensures { result ≡ on_front n x s.now }
 {
     let m = here(x.count - x.seen, x.read);
     match sector::descriptors(s, from(x.read), m, x.number) {
@@ -92,7 +92,7 @@ fn on_front(x: Reading, s: &[u8], n: usize) -> Progress
 // A data sector.
 fn on_data(x: Reading, s: &[u8], n: usize) -> Progress
     requires { (length s.now ≡ 4096) × (n < 33554432) × Sane n x }
-    ensures { result ≡ onData n x s.now }
+    ensures { result ≡ on_data n x s.now }
 {
     if body::is_data_sector(s, x.number) {
         settled(past(x, 0, 0, s), n)
@@ -103,14 +103,14 @@ fn on_data(x: Reading, s: &[u8], n: usize) -> Progress
 
 // Where in an entry's sector its descriptors begin.
 pub fn from(k: usize) -> usize
-    ensures { result ≡ fromOf k }
+    ensures { result ≡ from_of k }
 {
     if k == 0 { 64 } else { 0 }
 }
 
 // How many of the descriptors that are left stand in an entry's sector k: 126 stand in its first, 128 in each other.
 pub fn here(left: usize, k: usize) -> usize
-    ensures { result ≡ min left (placesIn k) }
+    ensures { result ≡ min left (places_in k) }
 {
     if k == 0 {
         least(left, 126)
@@ -144,7 +144,7 @@ fn past(x: Reading, m: usize, d: usize, s: &[u8]) -> Reading
 }
 
 fn state_on(k: usize, state: u32, s: &[u8]) -> u32
-    ensures { result ≡ stateOn k state s.now }
+    ensures { result ≡ state_on k state s.now }
 {
     if k == 0 {
         crc32c::start_zeroed(s, 4)
@@ -156,7 +156,7 @@ fn state_on(k: usize, state: u32, s: &[u8]) -> u32
 // What a reading comes to: a sector with descriptors is left, or its length is judged.
 fn settled(x: Reading, n: usize) -> Progress
     requires { Sized n x }
-    ensures { result ≡ settledOn n x }
+    ensures { result ≡ settled_on_all n x }
 {
     let front = descriptor::sectors(x.count);
     if x.read < front {
@@ -176,7 +176,7 @@ fn settled(x: Reading, n: usize) -> Progress
 
 // All its sectors were read: the checksum decides.
 fn closed(x: Reading, size: usize) -> Progress
-    ensures { result ≡ closedOf x size }
+    ensures { result ≡ closed_of x size }
 {
     if x.sum == crc32c::finish(x.state) {
         Progress::Valid(Entry {

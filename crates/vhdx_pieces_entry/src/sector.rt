@@ -2,7 +2,7 @@
 ghost use Rattle.std.specs.Prelude.{◌≡◌, ◌+◌, ◌*◌, ◌≤◌, length, take, drop};
 ghost use Rattle.decision.specs.Bounded.{only_if};
 ghost use Rattle.vhdx_entry.specs.Entry.{tally_of};
-ghost use Rattle.vhdx_pieces_entry.specs.Sector.{passes, dataIn, lengthIn};
+ghost use Rattle.vhdx_pieces_entry.specs.Sector.{passes, data_in, length_in};
 
 use vhdx_entry::body::Tally;
 use vhdx_entry::{body, descriptor};
@@ -10,7 +10,7 @@ use vhdx_entry::{body, descriptor};
 // Of the m descriptors from byte `from` of a sector on: how many are data descriptors, if all keep their rule.
 pub fn descriptors(s: &[u8], from: usize, m: usize, number: u64) -> Tally
     requires { (length s.now ≡ 4096) × (from + 32 * m ≤ 4096) }
-    ensures { tally_of result ≡ only_if (passes number s.now from m) (dataIn s.now from m) }
+    ensures { tally_of result ≡ only_if (passes number s.now from m) (data_in s.now from m) }
 {
     let mut found: usize = 0;
     let mut i: usize = 0;
@@ -38,7 +38,7 @@ pub fn at(s: &[u8], start: usize) -> &[u8]
 // How many bytes a descriptor names.
 pub fn run_length(d: &[u8]) -> u64
     requires { length d.now ≡ 32 }
-    ensures { result ≡ lengthIn d.now }
+    ensures { result ≡ length_in d.now }
 {
     if descriptor::is_data(d) {
         4096

@@ -1,11 +1,11 @@
 -- The current header in pieces: what is wanted, and what comes of it.
 -- Assumes nothing.
-use Rattle.std.specs.Prelude.{◌&&◌, List, ℕ, ◌+◌, ◌≤◌, leb, length, take, drop}
+use Rattle.std.specs.Prelude.{◌&&◌, List, ℕ, ◌+◌, ◌≤◌, nat_le, length, take, drop}
 use Rattle.decision.specs.Refusal.{check}
 use Rattle.field.specs.Fields.{starts}
-use Rattle.extent.specs.Extent.{MiB}
-use Rattle.vhdx_header.specs.Header.{validHeader, fieldRules, contents}
-use Rattle.vhdx_header.specs.Current.{vhdxfile, slot1, slot2, chosenSlot, withinImage, currentHeader}
+use Rattle.extent.specs.Extent.{mib}
+use Rattle.vhdx_header.specs.Header.{valid_header, field_rules, contents}
+use Rattle.vhdx_header.specs.Current.{vhdxfile, slot1, slot2, chosen_slot, within_image, current_header}
 use Rattle.vhdx_header.specs.declared.Answer.{Answer}
 use Rattle.vhdx_header.specs.declared.Answer.TheVariants.{Refused, Current}
 use Rattle.vhdx_header.specs.declared.choice.Slot.{Slot}
@@ -29,33 +29,33 @@ size_of (Second c) = 4096
 
 -- 1: of a file of n bytes
 abbrev pub started : ℕ → ℕ → Step
-started n capacity = check (leb n capacity && leb MiB n) (Ended (Refused 1)) (Read Identifier)
+started n capacity = check (nat_le n capacity && nat_le mib n) (Ended (Refused 1)) (Read Identifier)
 
 -- 2
 abbrev pub identified : List ℕ → Step
 identified p = check (starts p vhdxfile) (Ended (Refused 2)) (Read First)
 
-abbrev pub candidateOf : ℕ → List ℕ → Candidate
-candidateOf at h = record { valid = validHeader h; rules = fieldRules h; header = contents at h }
+abbrev pub candidate_of : ℕ → List ℕ → Candidate
+candidate_of at h = record { valid = valid_header h; rules = field_rules h; header = contents at h }
 
 abbrev pub judged : Candidate → Answer
 judged c = check c.rules (Refused 4) (Current c.header)
 
-abbrev pub chosenBy : Slot → Candidate → Candidate → Answer
-chosenBy slot.Neither a b = Refused 3
-chosenBy slot.First a b = judged a
-chosenBy slot.Second a b = judged b
+abbrev pub chosen_by : Slot → Candidate → Candidate → Answer
+chosen_by slot.Neither a b = Refused 3
+chosen_by slot.First a b = judged a
+chosen_by slot.Second a b = judged b
 
 abbrev pub chosen : Candidate → Candidate → Answer
-chosen a b = chosenBy (chosenSlot a.valid b.valid a.header.sequence_number b.header.sequence_number) a b
+chosen a b = chosen_by (chosen_slot a.valid b.valid a.header.sequence_number b.header.sequence_number) a b
 
-abbrev pub stepIn : ℕ → Stage → List ℕ → Step
-stepIn n Identifier p = identified p
-stepIn n First p = Read (Second (candidateOf slot1 p))
-stepIn n (Second c) p = Ended (withinImage n (chosen c (candidateOf slot2 p)))
+abbrev pub step_in : ℕ → Stage → List ℕ → Step
+step_in n Identifier p = identified p
+step_in n First p = Read (Second (candidate_of slot1 p))
+step_in n (Second c) p = Ended (within_image n (chosen c (candidate_of slot2 p)))
 
 unfoldable pub step_of : ℕ → Stage → List ℕ → Step
-step_of n stage p = stepIn n stage p
+step_of n stage p = step_in n stage p
 
 -- fed the bytes of b that it wants, all of them among its first n, it ends with this answer
 pub data Finds (b : List ℕ) (n : ℕ) : Step → Answer → Type 0 where
@@ -64,4 +64,4 @@ pub data Finds (b : List ℕ) (n : ℕ) : Step → Answer → Type 0 where
 
 -- the theorem
 abbrev pub FindsHeader : Type 0
-FindsHeader = (b : List ℕ) (n : ℕ) → Finds b n (started n (length b)) (currentHeader b n)
+FindsHeader = (b : List ℕ) (n : ℕ) → Finds b n (started n (length b)) (current_header b n)

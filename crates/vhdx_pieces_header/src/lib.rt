@@ -1,6 +1,6 @@
 // The current header in pieces: the identifier's 8 bytes, then each header's 4,096.
 ghost use Rattle.std.specs.Prelude.{◌≡◌, ◌+◌, ◌≤◌, length as length_of};
-ghost use Rattle.vhdx_pieces_header.specs.Finding.{offset_of, size_of, started, identified as identifiedBy, step_of, candidateOf, judged as judgedOf, chosen as chosen_of};
+ghost use Rattle.vhdx_pieces_header.specs.Finding.{offset_of, size_of, started, identified as identified_by, step_of, candidate_of, judged as judged_of, chosen as chosen_of};
 
 use vhdx_header::choice::Slot;
 use vhdx_header::{Answer, Header, choice, fields};
@@ -76,7 +76,7 @@ pub fn next(stage: Stage, length: u64, piece: &[u8]) -> Step
 
 fn identified(piece: &[u8]) -> Step
     requires { length_of piece.now ≡ 8 }
-    ensures { result ≡ identifiedBy piece.now }
+    ensures { result ≡ identified_by piece.now }
 {
     if field::bytes_are(piece, 0, b"vhdxfile") {
         Step::Read(Stage::First)
@@ -87,7 +87,7 @@ fn identified(piece: &[u8]) -> Step
 
 fn read_one(at: u64, h: &[u8]) -> Candidate
     requires { length_of h.now ≡ 4096 }
-    ensures { result ≡ candidateOf at h.now }
+    ensures { result ≡ candidate_of at h.now }
 {
     let header = fields::contents(at, h);
     Candidate {
@@ -116,7 +116,7 @@ fn chosen(first: Candidate, second: Candidate) -> Answer
 }
 
 fn judged(c: Candidate) -> Answer
-    ensures { result ≡ judgedOf c }
+    ensures { result ≡ judged_of c }
 {
     let header = c.header;
     if c.rules {

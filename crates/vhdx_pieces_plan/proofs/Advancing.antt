@@ -9,9 +9,9 @@ use native.Mathlib.Omega.{arith}
 use lib.Dec.{eqb, leb, ltb}
 use borrow.Author.Tests.{leb-true, ltb-true}
 use Rattle.decision.specs.Refusal.{check}
-use Rattle.extent.specs.Extent.{MiB, inside}
+use Rattle.extent.specs.Extent.{mib, inside}
 use Rattle.field.specs.Fields.{starts}
-use Rattle.vhdx_header.specs.Current.{vhdxfile, slot2, withinImage}
+use Rattle.vhdx_header.specs.Current.{vhdxfile, slot2, within_image}
 use Rattle.vhdx_header.specs.declared.Answer.{Answer}
 use Rattle.vhdx_header.specs.declared.Answer.TheVariants as answer
 use Rattle.vhdx_header.specs.declared.Header.{Header}
@@ -20,19 +20,19 @@ use Rattle.vhdx_sequence.specs.declared.Sequence.{Sequence}
 use Rattle.vhdx_sequence.specs.declared.Found.{Found}
 use Rattle.vhdx_sequence.specs.declared.Found.TheVariants as found
 use Rattle.vhdx_sequence.specs.Scan.{fresh}
-use Rattle.vhdx_walk.specs.Entries.{lengthLimit}
+use Rattle.vhdx_walk.specs.Entries.{length_limit}
 use Rattle.vhdx_pieces_header.specs.declared.Stage.{Stage}
 use Rattle.vhdx_pieces_header.specs.declared.Stage.TheVariants as stage
 use Rattle.vhdx_pieces_header.specs.declared.Step as header
 use Rattle.vhdx_pieces_header.specs.Finding as finding
 use Rattle.vhdx_pieces_entry.proofs.Laws.{chosen}
 use Rattle.vhdx_pieces_scan.specs.declared.Step as scan
-use Rattle.vhdx_pieces_scan.specs.declared.Step.TheVariants as scanStep
+use Rattle.vhdx_pieces_scan.specs.declared.Step.TheVariants as scan_step
 use Rattle.vhdx_pieces_scan.specs.Scanning as scanning
 use Rattle.vhdx_pieces_scan.proofs.Advancing.{scan-advances, scan-starts}
 use Rattle.vhdx_pieces_survey.specs.declared.Report.{Report}
 use Rattle.vhdx_pieces_survey.specs.declared.Step as survey
-use Rattle.vhdx_pieces_survey.specs.declared.Step.TheVariants as surveyStep
+use Rattle.vhdx_pieces_survey.specs.declared.Step.TheVariants as survey_step
 use Rattle.vhdx_pieces_survey.specs.Touring as touring
 use Rattle.vhdx_pieces_survey.proofs.Advancing.{survey-advances, survey-starts}
 use Rattle.vhdx_pieces_plan.specs.declared.Context.{Context}
@@ -41,7 +41,7 @@ use Rattle.vhdx_pieces_plan.specs.declared.Phase.TheVariants as phase
 use Rattle.vhdx_pieces_plan.specs.declared.Outcome.TheVariants.{Refused}
 use Rattle.vhdx_pieces_plan.specs.declared.Step.{Step}
 use Rattle.vhdx_pieces_plan.specs.declared.Step.TheVariants.{Ended}
-use Rattle.vhdx_pieces_plan.specs.Planning.{sectorsOf, judged, toured, sought, scanned, withLog, context_of, answered, headed, stepIn, step_of, Bounded, SaneIn, Ordered, Kept, scanMost, surveyMost, planMost, leftIn, left_of, PlanAdvances, PlanStarts}
+use Rattle.vhdx_pieces_plan.specs.Planning.{sectors_of, judged, toured, sought, scanned, with_log, context_of, answered, headed, step_in, step_of, Bounded, SaneIn, Ordered, Kept, scan_most, survey_most, plan_most, left_in, left_of, PlanAdvances, PlanStarts}
 
 -- as `chosen`, of a test that refuses where it fails
 pub checked : {A : Type 0} (P : A → Type 0) (b : Bool) (x y : A) → P x → (b ≡ true → P y) → P (check b x y)
@@ -52,58 +52,58 @@ checked P false x y f g = f
 abbrev Below : ℕ → ℕ → Step → Type 0
 Below n m r = Kept n r × (left_of r < m)
 
-within : (n capacity : ℕ) → (leb n capacity && leb n lengthLimit) ≡ true → n ≤ lengthLimit
-within n capacity h = leb-true n lengthLimit ((and-eq-true_iff (leb n capacity) (leb n lengthLimit)).0 h).1
+within : (n capacity : ℕ) → (leb n capacity && leb n length_limit) ≡ true → n ≤ length_limit
+within n capacity h = leb-true n length_limit ((and-eq-true_iff (leb n capacity) (leb n length_limit)).0 h).1
 
-few-sectors : (c : Context) → Bounded c → sectorsOf c.log < 1048576
+few-sectors : (c : Context) → Bounded c → sectors_of c.log < 1048576
 few-sectors c b = omega (arith, b.short)
 
 module _ (c : Context) (b : Bounded c) where
   -- ---- the survey
 
-  module _ (q : Sequence) (st : q.start < sectorsOf c.log) (mo : q.more < sectorsOf c.log) where
+  module _ (q : Sequence) (st : q.start < sectors_of c.log) (mo : q.more < sectors_of c.log) where
     ordered : (r : Report) → Ordered c.length (judged c q r)
     ordered r =
         let P = Ordered c.length in
         let m = max c.length (max r.last r.found.end) in
         checked P (leb r.flushed c.length) _ _ tt
         (λ _. checked P (not r.found.lies) _ _ tt
-        (λ _. checked P (leb m c.capacity && leb m lengthLimit) _ _ tt
+        (λ _. checked P (leb m c.capacity && leb m length_limit) _ _ tt
         (λ t. record { longer = omega arith; limited = within m c.capacity t; short = b.short; inside = b.inside; left = omega arith; start = λ _. st })))
 
-    tours : (m : ℕ) (r : survey.Step) → touring.Onward (sectorsOf c.log) r → touring.left_of r < m → Below c.length m (toured c q r)
-    tours m (surveyStep.Sector t) o l = (((b, o.0, o.1, st, mo), refl), l)
-    tours m (surveyStep.Ended r) o l = (ordered r, l)
-    tours m surveyStep.Broken o l = (tt, l)
+    tours : (m : ℕ) (r : survey.Step) → touring.Onward (sectors_of c.log) r → touring.left_of r < m → Below c.length m (toured c q r)
+    tours m (survey_step.Sector t) o l = (((b, o.0, o.1, st, mo), refl), l)
+    tours m (survey_step.Ended r) o l = (ordered r, l)
+    tours m survey_step.Broken o l = (tt, l)
 
   -- ---- the scan
 
-  seeks : (m : ℕ) (q : Found) → 0 < m → Below c.length (m + surveyMost) (sought c q)
+  seeks : (m : ℕ) (q : Found) → 0 < m → Below c.length (m + survey_most) (sought c q)
   seeks m found.Nothing p = (tt, omega arith)
   seeks m (found.At q) p =
-      let n = sectorsOf c.log in
-      checked (Below c.length (m + surveyMost)) (ltb q.start n && ltb q.more n) _ _ (tt, omega arith)
+      let n = sectors_of c.log in
+      checked (Below c.length (m + survey_most)) (ltb q.start n && ltb q.more n) _ _ (tt, omega arith)
       (λ t.
       let both = (and-eq-true_iff (ltb q.start n) (ltb q.more n)).0 t in
       let st : q.start < n = ltb-true _ _ both.0 in
       let mo : q.more < n = ltb-true _ _ both.1 in
       let pos : RingPos = record { at = q.start; len = n } in
       let h = survey-starts pos q.more st (few-sectors c b) mo in
-      let most : n * n ≤ surveyMost = mul-le-mul {n₂ = 1048576} {m₂ = 1048576} (omega (arith, few-sectors c b)) (omega (arith, few-sectors c b)) in
-      tours q st mo (m + surveyMost) (touring.started pos q.more) h.0 (omega (arith, h.1)))
+      let most : n * n ≤ survey_most = mul-le-mul {n₂ = 1048576} {m₂ = 1048576} (omega (arith, few-sectors c b)) (omega (arith, few-sectors c b)) in
+      tours q st mo (m + survey_most) (touring.started pos q.more) h.0 (omega (arith, h.1)))
 
-  scans : (m : ℕ) (r : scan.Step) → scanning.Onward (sectorsOf c.log) r → scanning.left_of r < m → Below c.length (m + surveyMost) (scanned c r)
-  scans m (scanStep.Sector s) o l = (((b, o.0, o.1), refl), omega arith)
-  scans m (scanStep.Ended q) o l = seeks m q l
+  scans : (m : ℕ) (r : scan.Step) → scanning.Onward (sectors_of c.log) r → scanning.left_of r < m → Below c.length (m + survey_most) (scanned c r)
+  scans m (scan_step.Sector s) o l = (((b, o.0, o.1), refl), omega arith)
+  scans m (scan_step.Ended q) o l = seeks m q l
 
   -- ---- the header
 
-  logs : Below c.length (1 + scanMost + surveyMost) (withLog c)
+  logs : Below c.length (1 + scan_most + survey_most) (with_log c)
   logs =
-      let n = sectorsOf c.log in
-      chosen (Below c.length (1 + scanMost + surveyMost)) (eqb c.guid.low 0 && eqb c.guid.high 0) _ _
+      let n = sectors_of c.log in
+      chosen (Below c.length (1 + scan_most + survey_most)) (eqb c.guid.low 0 && eqb c.guid.high 0) _ _
       (λ _. (
-        checked (Ordered c.length) (leb c.length c.capacity && leb c.length lengthLimit) _ _ tt
+        checked (Ordered c.length) (leb c.length c.capacity && leb c.length length_limit) _ _ tt
             (λ t. record {
               longer = omega arith;
               limited = within c.length c.capacity t;
@@ -116,36 +116,36 @@ module _ (c : Context) (b : Bounded c) where
       ))
       (λ _.
       let h = scan-starts n (few-sectors c b) in
-      let most : (n + n) * (n + 1) ≤ scanMost = mul-le-mul {n₂ = 2097152} {m₂ = 1048576} (omega (arith, few-sectors c b)) (omega (arith, few-sectors c b)) in
-      scans (1 + scanMost) (scanning.resumed n 0 fresh) h.0 (omega (arith, h.1)))
+      let most : (n + n) * (n + 1) ≤ scan_most = mul-le-mul {n₂ = 2097152} {m₂ = 1048576} (omega (arith, few-sectors c b)) (omega (arith, few-sectors c b)) in
+      scans (1 + scan_most) (scanning.resumed n 0 fresh) h.0 (omega (arith, h.1)))
 
 module _ (n capacity : ℕ) (few : n < 18446744073709551616) where
-  answers : (a : Answer) → Below n (1 + scanMost + surveyMost) (answered n capacity a)
+  answers : (a : Answer) → Below n (1 + scan_most + survey_most) (answered n capacity a)
   answers (answer.Refused c) = (tt, omega arith)
   answers (answer.Current h) =
-      checked (Below n (1 + scanMost + surveyMost)) (ltb h.log_length 4294967296 && inside h.log_offset h.log_length n) _ _ (tt, omega arith)
+      checked (Below n (1 + scan_most + survey_most)) (ltb h.log_length 4294967296 && inside h.log_offset h.log_length n) _ _ (tt, omega arith)
       (λ t.
       let both = (and-eq-true_iff (ltb h.log_length 4294967296) (inside h.log_offset h.log_length n)).0 t in
       logs (context_of n capacity h) (record { short = ltb-true _ _ both.0; inside = leb-true _ _ both.1; few = few }))
 
-  heads : 1048576 ≤ n → (s : Stage) (p : List ℕ) → Below n (leftIn (phase.Header s)) (headed n capacity (finding.step_of n s p))
+  heads : 1048576 ≤ n → (s : Stage) (p : List ℕ) → Below n (left_in (phase.Header s)) (headed n capacity (finding.step_of n s p))
   unfolding finding.step_of
   heads long stage.Identifier p =
-      checked (λ (r : header.Step). Below n (leftIn (phase.Header stage.Identifier)) (headed n capacity r)) (starts p vhdxfile) _ _ (tt, omega arith)
+      checked (λ (r : header.Step). Below n (left_in (phase.Header stage.Identifier)) (headed n capacity r)) (starts p vhdxfile) _ _ (tt, omega arith)
       (λ _. (((long, few), refl), omega arith))
   heads long stage.First p = (((long, few), refl), omega arith)
-  heads long (stage.Second c) p = answers (withinImage n (finding.chosen c (finding.candidateOf slot2 p)))
+  heads long (stage.Second c) p = answers (within_image n (finding.chosen c (finding.candidate_of slot2 p)))
 
-steps : (c : Context) (x : Phase) (p : List ℕ) → SaneIn c x → Below c.length (leftIn x) (stepIn c x p)
+steps : (c : Context) (x : Phase) (p : List ℕ) → SaneIn c x → Below c.length (left_in x) (step_in c x p)
 steps c (phase.Header s) p h = heads c.length c.capacity h.1 h.0 s p
 steps c (phase.Scan s) p h =
     let r = scanning.step_of c.guid s p in
     let a = scan-advances c.guid s p h.1 in
-    scans c h.0 (scanning.left_of (scanStep.Sector s)) r (subst (λ (n : ℕ). scanning.Onward n r) h.2 a.0) a.1
+    scans c h.0 (scanning.left_of (scan_step.Sector s)) r (subst (λ (n : ℕ). scanning.Onward n r) h.2 a.0) a.1
 steps c (phase.Survey s) p h =
     let r = touring.step_of c.log s.tour p in
     let a = survey-advances c.log s.tour p h.1 in
-    tours c h.0 s.found h.3 h.4 (touring.left_of (surveyStep.Sector s.tour)) r (subst (λ (n : ℕ). touring.Onward n r) h.2 a.0) a.1
+    tours c h.0 s.found h.3 h.4 (touring.left_of (survey_step.Sector s.tour)) r (subst (λ (n : ℕ). touring.Onward n r) h.2 a.0) a.1
 
 pub plan-advances : PlanAdvances
 unfolding step_of
@@ -153,5 +153,5 @@ plan-advances x p h = steps x.context x.phase p h
 
 pub plan-starts : PlanStarts
 plan-starts n capacity few =
-    checked (λ (r : header.Step). Kept n (headed n capacity r) × (left_of (headed n capacity r) ≤ planMost)) (leb n capacity && leb MiB n) _ _ (tt, omega arith)
-    (λ t. (((leb-true MiB n ((and-eq-true_iff (leb n capacity) (leb MiB n)).0 t).1, few), refl), omega arith))
+    checked (λ (r : header.Step). Kept n (headed n capacity r) × (left_of (headed n capacity r) ≤ plan_most)) (leb n capacity && leb mib n) _ _ (tt, omega arith)
+    (λ t. (((leb-true mib n ((and-eq-true_iff (leb n capacity) (leb mib n)).0 t).1, few), refl), omega arith))

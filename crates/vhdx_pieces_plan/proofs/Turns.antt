@@ -6,7 +6,7 @@ use Prim.Native.Nat.{ℕ, ◌+◌, ◌≤◌, ◌<◌, max}
 use lib.Dec.{leb, lit≤}
 use borrow.Author.Tests.{le-leb, lt-leb}
 use Rattle.vhdx_sequence.specs.declared.Sequence.{Sequence}
-use Rattle.vhdx_walk.specs.Entries.{lengthLimit}
+use Rattle.vhdx_walk.specs.Entries.{length_limit}
 use Rattle.vhdx_pieces_header.specs.declared.Stage.{Stage}
 use Rattle.vhdx_pieces_header.specs.declared.Stage.TheVariants as stage
 use Rattle.vhdx_pieces_header.specs.Finding as finding
@@ -30,12 +30,12 @@ module _ (c : Context) (q : Sequence) (r : Report) where
     is-7 h = rw (le-leb r.flushed c.length f, h)
 
     module _ (apart : r.found.lies ≡ false) (m : ℕ) (e : m ≡ max c.length (max r.last r.found.end)) where
-      pub is-8 : (leb m c.capacity && leb m lengthLimit) ≡ false → Refused 8 ≡ judged c q r
-      is-8 h = let t = sym (ap (λ (x : ℕ). leb x c.capacity && leb x lengthLimit) e) ∙ h in rw (le-leb r.flushed c.length f, apart, t)
+      pub is-8 : (leb m c.capacity && leb m length_limit) ≡ false → Refused 8 ≡ judged c q r
+      is-8 h = let t = sym (ap (λ (x : ℕ). leb x c.capacity && leb x length_limit) e) ∙ h in rw (le-leb r.flushed c.length f, apart, t)
 
-      pub is-order : (leb m c.capacity && leb m lengthLimit) ≡ true
+      pub is-order : (leb m c.capacity && leb m length_limit) ≡ true
           → Apply (record { length = m; count = r.found.count; log = c.log; start = q.start; left = q.more + 1 }) ≡ judged c q r
       is-order h =
-          let t = sym (ap (λ (x : ℕ). leb x c.capacity && leb x lengthLimit) e) ∙ h in
+          let t = sym (ap (λ (x : ℕ). leb x c.capacity && leb x length_limit) e) ∙ h in
           ap {B = Outcome} (λ (x : ℕ). Apply (record { length = x; count = r.found.count; log = c.log; start = q.start; left = q.more + 1 })) e
           ∙ rw (le-leb r.flushed c.length f, apart, t)

@@ -1,7 +1,7 @@
 // The log's work planned in pieces, or the refusal 1 to 8: a planner says which bytes of the file it wants, is handed in with them, and
 // handed back moved. It goes through the current header, the scan for the active sequence, the survey of it, and decides.
 ghost use Rattle.std.specs.Prelude.{◌≡◌, ◌+◌, ◌≤◌, ◌<◌, length as length_of};
-ghost use Rattle.vhdx_pieces_plan.specs.Planning.{sectorsOf, sectorIn, Sane, Kept, wantedOf, started, headed, answered, withHeader, withLog, scanned, sought, toured, judged as judgedOf, step_of};
+ghost use Rattle.vhdx_pieces_plan.specs.Planning.{sectors_of, sector_in, Sane, Kept, wanted_of, started, headed, answered, with_header, with_log, scanned, sought, toured, judged as judged_of, step_of};
 
 use extent::Extent;
 use vhdx_entry::ring::RingPos;
@@ -79,7 +79,7 @@ pub fn start(length: u64, capacity: u64) -> Step
 // The bytes that it wants.
 pub fn wanted(p: Planner) -> Extent
     requires { Sane p }
-    ensures { (result ≡ wantedOf p) × (result.offset + result.length ≤ p.context.length) × (result.length ≤ 65536) }
+    ensures { (result ≡ wanted_of p) × (result.offset + result.length ≤ p.context.length) × (result.length ≤ 65536) }
 {
     let context = p.context;
     let phase = p.phase;
@@ -99,8 +99,8 @@ pub fn wanted(p: Planner) -> Extent
 
 // Sector k of the log.
 pub fn sector_at(log: Extent, k: usize) -> Extent
-    requires { (log.offset + log.length < 18446744073709551616) × (k < sectorsOf log) }
-    ensures { (result ≡ sectorIn log k) × (result.offset + result.length ≤ log.offset + log.length) × (result.length ≡ 4096) }
+    requires { (log.offset + log.length < 18446744073709551616) × (k < sectors_of log) }
+    ensures { (result ≡ sector_in log k) × (result.offset + result.length ≤ log.offset + log.length) × (result.length ≡ 4096) }
 {
     Extent {
         offset: log.offset + 4096 * k as u64,
@@ -110,7 +110,7 @@ pub fn sector_at(log: Extent, k: usize) -> Extent
 
 // Fed them.
 pub fn next(p: Planner, piece: &[u8]) -> Step
-    requires { Sane p × (length_of piece.now ≡ (wantedOf p).length) }
+    requires { Sane p × (length_of piece.now ≡ (wanted_of p).length) }
     ensures { (result ≡ step_of p piece.now) × Kept p.context.length result }
 {
     let context = p.context;
@@ -165,7 +165,7 @@ fn with_answer(length: u64, capacity: u64, answer: Answer) -> Step
 
 // That the log is short and inside the file holds of a file that does not change.
 fn with_header(length: u64, capacity: u64, header: Header) -> Step
-    ensures { result ≡ withHeader length capacity header }
+    ensures { result ≡ with_header length capacity header }
 {
     let guid = header.log_guid;
     let log = Extent {
@@ -188,7 +188,7 @@ fn with_header(length: u64, capacity: u64, header: Header) -> Step
 
 fn with_log(context: Context) -> Step
     requires { context.log.length < 4294967296 }
-    ensures { result ≡ withLog context }
+    ensures { result ≡ with_log context }
 {
     let guid = context.guid;
     let log = context.log;
@@ -209,7 +209,7 @@ fn with_log(context: Context) -> Step
 
 // How many sectors a log has.
 pub fn sectors(log: Extent) -> usize
-    ensures { result ≡ sectorsOf log }
+    ensures { result ≡ sectors_of log }
 {
     (log.length / 4096) as usize
 }
@@ -257,7 +257,7 @@ fn seek(context: Context, found: Found) -> Step
 }
 
 fn survey_turn(context: Context, found: Sequence, step: vhdx_pieces_survey::Step) -> Step
-    requires { found.more < sectorsOf context.log }
+    requires { found.more < sectors_of context.log }
     ensures { result ≡ toured context found step }
 {
     match step {
@@ -272,8 +272,8 @@ fn survey_turn(context: Context, found: Sequence, step: vhdx_pieces_survey::Step
 
 // 6 to 8.
 fn judged(context: Context, found: Sequence, report: Report) -> Outcome
-    requires { found.more < sectorsOf context.log }
-    ensures { result ≡ judgedOf context found report }
+    requires { found.more < sectors_of context.log }
+    ensures { result ≡ judged_of context found report }
 {
     let log = context.log;
     let all = report.found;

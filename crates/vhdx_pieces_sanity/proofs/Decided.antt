@@ -9,9 +9,9 @@ use Rattle.vhdx_sequence.specs.declared.scan.Trace.{Trace}
 use Rattle.vhdx_sequence.specs.Scan.{Placed}
 use Rattle.vhdx_pieces_entry.specs.declared.Reading as entry
 use Rattle.vhdx_pieces_entry.specs.Pass as pass
-use Rattle.vhdx_pieces_entry.specs.Pass.{fromOf}
+use Rattle.vhdx_pieces_entry.specs.Pass.{from_of}
 use Rattle.vhdx_pieces_scan.specs.declared.Stage as scan
-use Rattle.vhdx_pieces_scan.specs.declared.Stage.TheVariants as scanStage
+use Rattle.vhdx_pieces_scan.specs.declared.Stage.TheVariants as scan_stage
 use Rattle.vhdx_pieces_scan.specs.declared.Scanner.{Scanner}
 use Rattle.vhdx_pieces_scan.specs.Scanning as scanning
 use Rattle.vhdx_pieces_survey.specs.declared.Tour.{Tour}
@@ -23,13 +23,13 @@ use Rattle.vhdx_pieces_plan.specs.declared.Order.{Order}
 use Rattle.vhdx_pieces_plan.specs.Planning.{Bounded, SaneIn, OrderFor}
 use Rattle.vhdx_pieces_walk.specs.declared.Bounds.{Bounds}
 use Rattle.vhdx_pieces_walk.specs.declared.Stage as walk
-use Rattle.vhdx_pieces_walk.specs.declared.Stage.TheVariants as walkStage
+use Rattle.vhdx_pieces_walk.specs.declared.Stage.TheVariants as walk_stage
 use Rattle.vhdx_pieces_walk.specs.declared.Walker.{Walker}
 use Rattle.vhdx_pieces_walk.specs.Walking.{Standing, Opened, ReadingIn, WritingIn, allowed}
 use Rattle.vhdx_pieces.specs.declared.Machine.{Machine}
 use Rattle.vhdx_pieces.specs.declared.Machine.TheVariants.{Planning, Growing, Reading, Writing}
 use Rattle.vhdx_pieces.specs.Machines.{bounds_of, Sane}
-use Rattle.vhdx_pieces_sanity.specs.Sanity.{standing, bounded, placed, upright, readable, staged, scanning as scans, opened, touring as tours, saneScan, saneSurvey, sanePhase, orderly, entered, wants, writes, sane, DecidesSane}
+use Rattle.vhdx_pieces_sanity.specs.Sanity.{standing, bounded, placed, upright, readable, staged, scanning as scans, opened, touring as tours, sane_scan, sane_survey, sane_phase, orderly, entered, wants, writes, sane, DecidesSane}
 use Rattle.vhdx_pieces_sanity.proofs.Deciding.{Decides, less, most, equal, itself, always, never, chain, both, some, means}
 
 -- ---- a planner
@@ -64,9 +64,9 @@ reading n x =
 
 stage : (n : ℕ) (s : scan.Stage) → Decides (staged n s) (scanning.Staged n s)
 unfolding staged
-stage n scanStage.First = always
-stage n (scanStage.Inside x) = reading n x
-stage n (scanStage.Tail e) = means (both (less _ _) (both (most _ _) (less _ _))) (λ h. (h.0, h.1.0, h.1.1)) (λ h. (h.0, (h.1, h.2)))
+stage n scan_stage.First = always
+stage n (scan_stage.Inside x) = reading n x
+stage n (scan_stage.Tail e) = means (both (less _ _) (both (most _ _) (less _ _))) (λ h. (h.0, h.1.0, h.1.1)) (λ h. (h.0, (h.1, h.2)))
 
 scanner : (s : Scanner) → Decides (scans s) (scanning.Sane s)
 unfolding scans
@@ -79,7 +79,7 @@ tour-standing t =
     (λ h. record { on = h.0; few = h.1.0; some = h.1.1.0; bounded = h.1.1.1 })
     (λ s. (s.on, (s.few, (s.some, s.bounded))))
 
-pub from-small : (k : ℕ) → fromOf k ≤ 64
+pub from-small : (k : ℕ) → from_of k ≤ 64
 from-small k = go (eqb k 0)
   where
     go : (b : Bool) → cond b 64 0 ≤ 64
@@ -102,8 +102,8 @@ tour t =
     (λ h. record { standing = h.0; short = h.1.0; inside = h.1.1 })
     (λ s. (s.standing, (s.short, s.inside)))
 
-planner : (c : Context) (p : Phase) → Decides (sanePhase c p) (SaneIn c p)
-unfolding saneScan saneSurvey sanePhase
+planner : (c : Context) (p : Phase) → Decides (sane_phase c p) (SaneIn c p)
+unfolding sane_scan sane_survey sane_phase
 planner c (phase.Header s) = means (both (less _ _) (most _ _)) (λ h. (h.1, h.0)) (λ h. (h.1, h.0))
 planner c (phase.Scan s) =
     means (both (context c) (both (scanner s) (equal _ _))) (λ h. (h.0, h.1.0, h.1.1)) (λ h. (h.0, (h.1, h.2)))
@@ -146,20 +146,20 @@ walker-opened w =
 
 reader : (b : Bounds) (w : Walker) (s : walk.Stage) → Decides (wants b w s) (ReadingIn b w s)
 unfolding wants
-reader b w walkStage.Header = walker-standing w
-reader b w walkStage.Descriptors = both (walker-opened w) (less _ _)
-reader b w (walkStage.Data d) =
+reader b w walk_stage.Header = walker-standing w
+reader b w walk_stage.Descriptors = both (walker-opened w) (less _ _)
+reader b w (walk_stage.Data d) =
     means (both (walker-opened w) (both (less _ _) (itself (allowed b d.offset 4096)))) (λ h. (h.0, h.1.0, h.1.1)) (λ h. (h.0, (h.1, h.2)))
-reader b w (walkStage.Sector d) = never
-reader b w (walkStage.Zeros e) = never
+reader b w (walk_stage.Sector d) = never
+reader b w (walk_stage.Zeros e) = never
 
 writer : (b : Bounds) (w : Walker) (s : walk.Stage) → Decides (writes b w s) (WritingIn b w s)
 unfolding writes
-writer b w walkStage.Header = never
-writer b w walkStage.Descriptors = never
-writer b w (walkStage.Data d) = never
-writer b w (walkStage.Sector d) = both (walker-opened w) (itself (allowed b d.offset 4096))
-writer b w (walkStage.Zeros e) =
+writer b w walk_stage.Header = never
+writer b w walk_stage.Descriptors = never
+writer b w (walk_stage.Data d) = never
+writer b w (walk_stage.Sector d) = both (walker-opened w) (itself (allowed b d.offset 4096))
+writer b w (walk_stage.Zeros e) =
     means (both (walker-opened w) (both (less _ _) (itself (allowed b e.offset e.length)))) (λ h. (h.0, h.1.0, h.1.1)) (λ h. (h.0, (h.1, h.2)))
 
 -- ---- a machine

@@ -4,9 +4,9 @@ mod planner;
 mod ring;
 mod walker;
 
-ghost use Rattle.std.specs.Prelude.{◌≡◌, eqb};
+ghost use Rattle.std.specs.Prelude.{◌≡◌, nat_eq};
 ghost use Rattle.vhdx_pieces.specs.Machines.{bounds_of};
-ghost use Rattle.vhdx_pieces_plan.specs.Planning.{sectorsOf};
+ghost use Rattle.vhdx_pieces_plan.specs.Planning.{sectors_of};
 ghost use Rattle.vhdx_pieces_sanity.specs.Sanity.{orderly, sane};
 
 use vhdx_log::decide;
@@ -57,7 +57,7 @@ fn bounds(o: Order) -> Bounds
 }
 
 fn is_on(o: Order, w: Walker) -> bool
-    ensures { result ≡ eqb w.pos.len (sectorsOf o.log) }
+    ensures { result ≡ nat_eq w.pos.len (sectors_of o.log) }
 {
     let log = o.log;
     let pos = w.pos;

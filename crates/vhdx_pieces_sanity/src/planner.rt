@@ -1,6 +1,6 @@
 // What a planner keeps to.
 ghost use Rattle.std.specs.Prelude.{◌≡◌, ◌<◌};
-ghost use Rattle.vhdx_pieces_sanity.specs.Sanity.{bounded, placed, upright, readable, ended, staged, scanning, opened, touring, saneScan, saneSurvey, sanePhase};
+ghost use Rattle.vhdx_pieces_sanity.specs.Sanity.{bounded, placed, upright, readable, ended, staged, scanning, opened, touring, sane_scan, sane_survey, sane_phase};
 
 use crate::ring;
 use vhdx_entry::{Entry, descriptor};
@@ -12,7 +12,7 @@ use vhdx_sequence::lap::Place;
 use vhdx_sequence::scan::Trace;
 
 pub fn is_sane(p: Planner) -> bool
-    ensures { result ≡ sanePhase p.context p.phase }
+    ensures { result ≡ sane_phase p.context p.phase }
 {
     let context = p.context;
     let phase = p.phase;
@@ -31,7 +31,7 @@ fn is_bounded(c: Context) -> bool
 }
 
 fn is_scan_sane(c: Context, s: Scanner) -> bool
-    ensures { result ≡ saneScan c s }
+    ensures { result ≡ sane_scan c s }
 {
     let log = c.log;
     let pos = s.place.pos;
@@ -97,7 +97,7 @@ fn is_ended(n: usize, e: Entry) -> bool
 }
 
 fn is_survey_sane(c: Context, s: Surveying) -> bool
-    ensures { result ≡ saneSurvey c s }
+    ensures { result ≡ sane_survey c s }
 {
     let log = c.log;
     let n = vhdx_pieces_plan::sectors(log);

@@ -1,6 +1,6 @@
 // What a walker keeps to.
-ghost use Rattle.std.specs.Prelude.{◌≡◌, ◌+◌, ◌<◌, ltb};
-ghost use Rattle.vhdx_entry.specs.Entry.{descriptorSectors};
+ghost use Rattle.std.specs.Prelude.{◌≡◌, ◌+◌, ◌<◌, nat_lt};
+ghost use Rattle.vhdx_entry.specs.Entry.{descriptor_sectors};
 ghost use Rattle.vhdx_pieces_walk.specs.Walking.{Opened};
 ghost use Rattle.vhdx_pieces_sanity.specs.Sanity.{entered, wants, writes};
 
@@ -58,7 +58,7 @@ fn is_entered(w: Walker) -> bool
 
 fn holds_data(w: Walker, d: Held) -> bool
     requires { Opened w }
-    ensures { result ≡ ltb (descriptorSectors w.count + d.rank) w.size }
+    ensures { result ≡ nat_lt (descriptor_sectors w.count + d.rank) w.size }
 {
     if w.size <= d.rank {
         return false;

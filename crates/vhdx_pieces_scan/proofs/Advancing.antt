@@ -8,7 +8,7 @@ use native.Mathlib.Omega.{arith}
 use lib.Dec.{ltb}
 use borrow.Author.Tests.{ltb-true}
 use Rattle.field.specs.declared.Guid.{Guid}
-use Rattle.vhdx_sequence.specs.Scan.{State, state_of, fresh, goesOn}
+use Rattle.vhdx_sequence.specs.Scan.{State, state_of, fresh, goes_on}
 use Rattle.vhdx_pieces_entry.specs.declared.Progress.{Progress}
 use Rattle.vhdx_pieces_entry.specs.declared.Progress.TheVariants.{More, Valid, Empty}
 use Rattle.vhdx_pieces_entry.specs.Pass as pass
@@ -17,7 +17,7 @@ use Rattle.vhdx_pieces_entry.proofs.Keeping.{kept-first, kept-further, Read, rea
 use Rattle.vhdx_pieces_scan.specs.declared.Stage.{Stage}
 use Rattle.vhdx_pieces_scan.specs.declared.Stage.TheVariants.{First, Inside, Tail}
 use Rattle.vhdx_pieces_scan.specs.declared.Step.{Step}
-use Rattle.vhdx_pieces_scan.specs.Scanning.{placeAt, traceOf, resumed, progressed, stepIn, step_of, Upright, Staged, Onward, left_at, left_of, ScanAdvances, ScanStarts}
+use Rattle.vhdx_pieces_scan.specs.Scanning.{place_at, trace_of, resumed, progressed, step_in, step_of, Upright, Staged, Onward, left_at, left_of, ScanAdvances, ScanStarts}
 use Rattle.vhdx_pieces_scan.proofs.Turns.{run-behind}
 
 -- over n sectors it may be fed again, less than m being left
@@ -25,15 +25,15 @@ abbrev Below : ℕ → ℕ → Step → Type 0
 Below n m r = Onward n r × (left_of r < m)
 
 module _ (n : ℕ) (few : n < 1048576) where
-  upright : (u : ℕ) (st : State) → st.start ≤ u → u < n + n → Upright (traceOf n st) (placeAt n u)
+  upright : (u : ℕ) (st : State) → st.start ≤ u → u < n + n → Upright (trace_of n st) (place_at n u)
   upright u st b l = record { few = few; here = (refl, refl); there = (refl, refl); behind = b; laps = l }
 
   resumes : (u : ℕ) (st : State) (m : ℕ) → st.start ≤ u → 0 < m → (u < n + n → left_at n u First < m) → Below n m (resumed n u st)
   unfolding resumed
   resumes u st m b p f =
-      chosen (Below n m) (goesOn n u st && ltb u (n + n)) _ _
+      chosen (Below n m) (goes_on n u st && ltb u (n + n)) _ _
       (λ t.
-      let l : u < n + n = ltb-true _ _ ((and-eq-true_iff (goesOn n u st) (ltb u (n + n))).0 t).1 in
+      let l : u < n + n = ltb-true _ _ ((and-eq-true_iff (goes_on n u st) (ltb u (n + n))).0 t).1 in
       ((record { upright = upright u st b l; staged = tt }, refl), f l))
       (λ _. (tt, p))
 
@@ -50,7 +50,7 @@ module _ (n : ℕ) (few : n < 1048576) where
     progresses k (Valid e) l h r = ((record { upright = upright u st behind laps; staged = h }, refl), omega arith)
     progresses k Empty l h r = moves 1 st (n + 1 - k) (omega arith) (omega arith) behind
 
-    steps : (guid : Guid) (stage : Stage) (p : List ℕ) → Staged n stage → Below n (left_at n u stage) (stepIn guid n u st stage p)
+    steps : (guid : Guid) (stage : Stage) (p : List ℕ) → Staged n stage → Below n (left_at n u stage) (step_in guid n u st stage p)
     steps guid First p h =
         let x = progresses 0 (pass.first guid n p) (omega arith) (kept-first guid n p (omega arith)) (read_first guid n p) in
         (x.0, omega (arith, x.1))

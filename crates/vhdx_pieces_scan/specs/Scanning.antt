@@ -1,19 +1,19 @@
 -- The scan for the active log sequence, in pieces: what a scanner wants, and what it does with it. A trace and a place are told
--- by the state that they stand for: `traceOf`, `placeAt`.
+-- by the state that they stand for: `trace_of`, `place_at`.
 -- Assumes nothing.
-use Rattle.std.specs.Prelude.{cond, ◌&&◌, List, ◌≡◌, ℕ, ◌+◌, ◌-◌, ◌*◌, ◌%◌, ◌^◌, ◌≤◌, ◌<◌, ltb, length}
+use Rattle.std.specs.Prelude.{cond, ◌&&◌, List, ◌≡◌, ℕ, ◌+◌, ◌-◌, ◌*◌, ◌%◌, ◌^◌, ◌≤◌, ◌<◌, nat_lt, length}
 use Rattle.std.proofs.Math.Option.{Option, none, some}
 use Rattle.field.specs.declared.Guid.{Guid}
 use Rattle.vhdx_entry.specs.declared.Entry.{Entry}
-use Rattle.vhdx_entry.specs.Ring.{sectorCount, sectorAt}
-use Rattle.vhdx_entry.specs.Entry.{signatureRule, sequenceNumber}
+use Rattle.vhdx_entry.specs.Ring.{sector_count, sector_at}
+use Rattle.vhdx_entry.specs.Entry.{signature_rule, sequence_number_of}
 use Rattle.vhdx_sequence.specs.declared.Sequence.{Sequence}
 use Rattle.vhdx_sequence.specs.declared.Found.{Found}
 use Rattle.vhdx_sequence.specs.declared.Found.TheVariants as found
 use Rattle.vhdx_sequence.specs.declared.lap.Place.{Place}
 use Rattle.vhdx_sequence.specs.declared.scan.Trace.{Trace}
-use Rattle.vhdx_sequence.specs.Sequence.{sequenceOf, activeSequence}
-use Rattle.vhdx_sequence.specs.Scan.{Placed, State, state_of, fresh, run_from, takenBy, goesOn}
+use Rattle.vhdx_sequence.specs.Sequence.{sequence_of, active_sequence}
+use Rattle.vhdx_sequence.specs.Scan.{Placed, State, state_of, fresh, run_from, taken_by, goes_on}
 use Rattle.vhdx_pieces_entry.specs.declared.Progress.{Progress}
 use Rattle.vhdx_pieces_entry.specs.declared.Progress.TheVariants.{More, Valid, Empty}
 use Rattle.vhdx_pieces_entry.specs.Pass as pass
@@ -24,48 +24,48 @@ use Rattle.vhdx_pieces_scan.specs.declared.Step.{Step}
 use Rattle.vhdx_pieces_scan.specs.declared.Step.TheVariants.{Sector, Ended}
 
 -- place u on the way over a ring of n sectors
-abbrev pub placeAt : ℕ → ℕ → Place
-placeAt n u = record { pos = record { at = u % n; len = n }; count = u }
+abbrev pub place_at : ℕ → ℕ → Place
+place_at n u = record { pos = record { at = u % n; len = n }; count = u }
 
-abbrev pub foundOf : Option Sequence → Found
-foundOf none = found.Nothing
-foundOf (some q) = found.At q
+abbrev pub found_of : Option Sequence → Found
+found_of none = found.Nothing
+found_of (some q) = found.At q
 
 -- the trace of a state
-abbrev pub traceOf : ℕ → State → Trace
-traceOf n st = record { start = placeAt n st.start; next = st.next; number = st.number; best = foundOf st.best }
+abbrev pub trace_of : ℕ → State → Trace
+trace_of n st = record { start = place_at n st.start; next = st.next; number = st.number; best = found_of st.best }
 
-abbrev pub scannerAt : ℕ → ℕ → State → Stage → Scanner
-scannerAt n u st stage = record { trace = traceOf n st; place = placeAt n u; stage = stage }
+abbrev pub scanner_at : ℕ → ℕ → State → Stage → Scanner
+scanner_at n u st stage = record { trace = trace_of n st; place = place_at n u; stage = stage }
 
 -- the sector of the log that is wanted
-abbrev pub wantedIn : ℕ → ℕ → Stage → ℕ
-wantedIn n at First = at
-wantedIn n at (Inside x) = (at + x.read) % n
-wantedIn n at (Tail e) = e.tail
+abbrev pub wanted_in : ℕ → ℕ → Stage → ℕ
+wanted_in n at First = at
+wanted_in n at (Inside x) = (at + x.read) % n
+wanted_in n at (Tail e) = e.tail
 
-abbrev pub wantedOf : Scanner → ℕ
-wantedOf s = wantedIn s.place.pos.len s.place.pos.at s.stage
+abbrev pub wanted_of : Scanner → ℕ
+wanted_of s = wanted_in s.place.pos.len s.place.pos.at s.stage
 
 -- at the next place, if the scan goes on
 unfoldable pub resumed : ℕ → ℕ → State → Step
-resumed n u st = cond (goesOn n u st && ltb u (n + n)) (Sector (scannerAt n u st First)) (Ended (foundOf st.best))
+resumed n u st = cond (goes_on n u st && nat_lt u (n + n)) (Sector (scanner_at n u st First)) (Ended (found_of st.best))
 
 abbrev pub progressed : ℕ → ℕ → State → Progress → Step
-progressed n u st (More x) = Sector (scannerAt n u st (Inside x))
-progressed n u st (Valid e) = Sector (scannerAt n u st (Tail e))
+progressed n u st (More x) = Sector (scanner_at n u st (Inside x))
+progressed n u st (Valid e) = Sector (scanner_at n u st (Tail e))
 progressed n u st Empty = resumed n (u + 1) st
 
 abbrev pub taking : ℕ → ℕ → State → Entry → List ℕ → Step
-taking n u st e s = resumed n (u + e.size) (takenBy n u (run_from u st e.number) st e (signatureRule s) (sequenceNumber s))
+taking n u st e s = resumed n (u + e.size) (taken_by n u (run_from u st e.number) st e (signature_rule s) (sequence_number_of s))
 
-abbrev pub stepIn : Guid → ℕ → ℕ → State → Stage → List ℕ → Step
-stepIn guid n u st First s = progressed n u st (pass.first guid n s)
-stepIn guid n u st (Inside x) s = progressed n u st (pass.further n x s)
-stepIn guid n u st (Tail e) s = taking n u st e s
+abbrev pub step_in : Guid → ℕ → ℕ → State → Stage → List ℕ → Step
+step_in guid n u st First s = progressed n u st (pass.first guid n s)
+step_in guid n u st (Inside x) s = progressed n u st (pass.further n x s)
+step_in guid n u st (Tail e) s = taking n u st e s
 
 unfoldable pub step_of : Guid → Scanner → List ℕ → Step
-step_of guid s p = stepIn guid s.place.pos.len s.place.count (state_of s.trace) s.stage p
+step_of guid s p = step_in guid s.place.pos.len s.place.count (state_of s.trace) s.stage p
 
 -- ---- what a scanner keeps to, whatever is fed
 
@@ -93,14 +93,14 @@ Onward n (Ended q) = Unit {0}
 -- ---- how many sectors it still asks for, at most
 
 -- at a place of a ring of n sectors: an entry has at most n, and one more is at its Tail
-abbrev pub leftIn : ℕ → Stage → ℕ
-leftIn n First = n + 1
-leftIn n (Inside x) = n + 1 - x.read
-leftIn n (Tail e) = 1
+abbrev pub left_in : ℕ → Stage → ℕ
+left_in n First = n + 1
+left_in n (Inside x) = n + 1 - x.read
+left_in n (Tail e) = 1
 
 -- at place u, and at each place after it in two laps
 abbrev pub left_at : ℕ → ℕ → Stage → ℕ
-left_at n u stage = (n + n - (u + 1)) * (n + 1) + leftIn n stage
+left_at n u stage = (n + n - (u + 1)) * (n + 1) + left_in n stage
 
 abbrev pub left_of : Step → ℕ
 left_of (Sector s) = left_at s.place.pos.len s.place.count s.stage
@@ -120,10 +120,10 @@ ScanStarts = (n : ℕ) → n < 1048576 → Onward n (resumed n 0 fresh) × (left
 
 -- fed the sectors of a log that it wants, it ends with this sequence
 pub data Scans (log : List ℕ) (guid : Guid) : Step → Option Sequence → Type 0 where
-  stop : {q : Found} → Scans log guid (Ended q) (sequenceOf q)
-  next : {s : Scanner} {o : Option Sequence} → wantedOf s < sectorCount log → Scans log guid (step_of guid s (sectorAt log (wantedOf s))) o → Scans log guid (Sector s) o
+  stop : {q : Found} → Scans log guid (Ended q) (sequence_of q)
+  next : {s : Scanner} {o : Option Sequence} → wanted_of s < sector_count log → Scans log guid (step_of guid s (sector_at log (wanted_of s))) o → Scans log guid (Sector s) o
 
 abbrev pub ScansActive : Type 0
 ScansActive =
     (log : List ℕ) (guid : Guid) → length log % 4096 ≡ 0 → length log < 2 ^ 32
-    → Scans log guid (resumed (sectorCount log) 0 fresh) (activeSequence log guid)
+    → Scans log guid (resumed (sector_count log) 0 fresh) (active_sequence log guid)

@@ -2,7 +2,7 @@
 // and handed back moved. It is `vhdx_sequence::active`'s loop, opened at each sector that it reads.
 ghost use Rattle.std.specs.Prelude.{◌≡◌, ◌≤◌, ◌<◌, length};
 ghost use Rattle.vhdx_sequence.specs.Scan.{Placed, state_of, fresh};
-ghost use Rattle.vhdx_pieces_scan.specs.Scanning.{Upright, Sane, Onward, scannerAt, wantedOf, resumed, progressed, taking, step_of};
+ghost use Rattle.vhdx_pieces_scan.specs.Scanning.{Upright, Sane, Onward, scanner_at, wanted_of, resumed, progressed, taking, step_of};
 
 use vhdx_entry::Entry;
 use vhdx_entry::ring::RingPos;
@@ -45,7 +45,7 @@ pub fn start(n: usize) -> Step
 // The sector of the log that it wants.
 pub fn wanted(s: Scanner) -> usize
     requires { Sane s }
-    ensures { (result ≡ wantedOf s) × (result < s.place.pos.len) }
+    ensures { (result ≡ wanted_of s) × (result < s.place.pos.len) }
 {
     let stage = s.stage;
     let pos = s.place.pos;
@@ -109,7 +109,7 @@ fn resume(trace: Trace, place: Place) -> Step
 
 fn at(trace: Trace, place: Place, stage: Stage) -> Step
     requires { Placed place.pos.len place × Placed place.pos.len trace.start }
-    ensures { result ≡ Step.Sector (scannerAt place.pos.len place.count (state_of trace) stage) }
+    ensures { result ≡ Step.Sector (scanner_at place.pos.len place.count (state_of trace) stage) }
 {
     Step::Sector(Scanner {
         trace,

@@ -7,18 +7,18 @@ use native.Mathlib.Omega.{arith}
 use lib.ListN.{length, take, drop, replicate, length-replicate, drop_of_length-le}
 use Rattle.field.specs.Fields.{le_bytes}
 use Rattle.field.proofs.Bytes.{le-bytes-long}
-use Rattle.vhdx_walk.specs.Entries.{zeroSector}
+use Rattle.vhdx_walk.specs.Entries.{zero_sector}
 use Rattle.vhdx_steps.specs.Buffer.{put, zeroed}
 use Rattle.vhdx_replay.proofs.Assembled.{assembled}
 use Rattle.vhdx_pieces_walk.specs.declared.Held.{Held}
-use Rattle.vhdx_pieces_walk.specs.Walking.{dataSector}
+use Rattle.vhdx_pieces_walk.specs.Walking.{data_sector}
 
 -- all of a list put over another of its length
 pub put_all : (s d : List ℕ) → length d ≡ length s → put s 0 d ≡ d
 unfolding put
 put_all s d e = ap (λ (r : List ℕ). d ++ r) (drop_of_length-le s {i = 0 + length d} (omega (arith, e))) ∙ append-nil d
 
-pub completed : (h : Held) (s : List ℕ) → length s ≡ 4096 → put (put s 0 (le_bytes 8 h.leading)) 4092 (le_bytes 4 h.trailing) ≡ dataSector h s
+pub completed : (h : Held) (s : List ℕ) → length s ≡ 4096 → put (put s 0 (le_bytes 8 h.leading)) 4092 (le_bytes 4 h.trailing) ≡ data_sector h s
 completed h s e =
     let l = le_bytes 8 h.leading in
     let t = le_bytes 4 h.trailing in
@@ -29,6 +29,6 @@ completed h s e =
     ∙ assembled s s l t 4084 refl (omega (arith, ll, lt, e))
     ∙ ap (λ (k : ℕ). l ++ (take 4084 (drop k s) ++ t)) ll
 
-pub zeros-filled : (s : List ℕ) → length s ≡ 4096 → zeroed s 0 4096 ≡ zeroSector
-unfolding zeroSector
+pub zeros-filled : (s : List ℕ) → length s ≡ 4096 → zeroed s 0 4096 ≡ zero_sector
+unfolding zero_sector
 zeros-filled s e = put_all s (replicate 4096 0) (length-replicate {A = ℕ} 4096 0 ∙ sym e)

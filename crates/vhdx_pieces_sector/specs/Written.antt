@@ -6,12 +6,12 @@ use Rattle.vhdx_pieces_walk.specs.declared.Stage.TheVariants as stage
 use Rattle.vhdx_pieces_walk.specs.declared.Walker.{Walker}
 
 -- it is a data descriptor's, not one of a zero descriptor's
-abbrev pub isDataIn : Stage → Bool
-isDataIn (stage.Sector d) = true
-isDataIn (stage.Zeros e) = false
-isDataIn stage.Header = false
-isDataIn stage.Descriptors = false
-isDataIn (stage.Data d) = false
+abbrev pub is_data_in : Stage → Bool
+is_data_in (stage.Sector d) = true
+is_data_in (stage.Zeros e) = false
+is_data_in stage.Header = false
+is_data_in stage.Descriptors = false
+is_data_in (stage.Data d) = false
 
-abbrev pub isDataOf : Walker → Bool
-isDataOf w = isDataIn w.stage
+abbrev pub is_data_of : Walker → Bool
+is_data_of w = is_data_in w.stage

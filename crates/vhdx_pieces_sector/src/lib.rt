@@ -1,7 +1,7 @@
 // The sector that a walker has to write: where it stands in the file, the kind of its descriptor, and its bytes.
 ghost use Rattle.std.specs.Prelude.{List, ◌≡◌, ℕ, length};
-ghost use Rattle.vhdx_pieces_walk.specs.Walking.{written_of, dataSector};
-ghost use Rattle.vhdx_pieces_sector.specs.Written.{isDataOf};
+ghost use Rattle.vhdx_pieces_walk.specs.Walking.{written_of, data_sector};
+ghost use Rattle.vhdx_pieces_sector.specs.Written.{is_data_of};
 
 use field::number;
 use vhdx_pieces_walk::{Held, Stage, Walker};
@@ -23,7 +23,7 @@ pub fn offset(w: Walker) -> u64
 
 // It is a data descriptor's.
 pub fn is_data(w: Walker) -> bool
-    ensures { result ≡ isDataOf w }
+    ensures { result ≡ is_data_of w }
 {
     let stage = w.stage;
     match stage {
@@ -53,7 +53,7 @@ pub fn fill(w: Walker, sector: &mut [u8])
 // A data sector with the bytes at its two ends that its descriptor holds.
 fn complete(held: Held, sector: &mut [u8])
     requires { length sector.old ≡ 4096 }
-    ensures { sector.new ≡ dataSector held sector.old }
+    ensures { sector.new ≡ data_sector held sector.old }
 {
     let leading = number::bytes8(held.leading);
     store::bytes(sector, 0, &leading);

@@ -14,19 +14,19 @@ use Rattle.decision.proofs.Laws.{every-at}
 use Rattle.vhdx_sequence.specs.declared.Found.{Found}
 use Rattle.vhdx_sequence.specs.declared.Found.TheVariants as best
 use Rattle.vhdx_pieces_header.specs.declared.Stage as header
-use Rattle.vhdx_pieces_header.specs.declared.Stage.TheVariants as headerStage
+use Rattle.vhdx_pieces_header.specs.declared.Stage.TheVariants as header_stage
 use Rattle.vhdx_pieces_scan.specs.declared.Stage as scan
-use Rattle.vhdx_pieces_scan.specs.declared.Stage.TheVariants as scanStage
+use Rattle.vhdx_pieces_scan.specs.declared.Stage.TheVariants as scan_stage
 use Rattle.vhdx_pieces_plan.specs.declared.Phase.{Phase}
 use Rattle.vhdx_pieces_plan.specs.declared.Phase.TheVariants as phase
 use Rattle.vhdx_pieces_walk.specs.declared.Stage as walk
-use Rattle.vhdx_pieces_walk.specs.declared.Stage.TheVariants as walkStage
+use Rattle.vhdx_pieces_walk.specs.declared.Stage.TheVariants as walk_stage
 use Rattle.vhdx_pieces.specs.declared.Doing.{Doing}
 use Rattle.vhdx_pieces.specs.declared.Machine.{Machine}
 use Rattle.vhdx_pieces.specs.declared.Machine.TheVariants.{Planning, Growing, Reading, Writing}
-use Rattle.vhdx_slots.specs.Slots.{inSlots}
+use Rattle.vhdx_slots.specs.Slots.{in_slots}
 use Rattle.vhdx_pieces_slots.specs.declared.Loaded.TheVariants.{Known, Unknown}
-use Rattle.vhdx_pieces_slots.specs.Slots.{zeros, contextIn, headerIn, bestIn, stageIn, scannerIn, tourIn, surveyingIn, phaseIn, plannerIn, order_in, turnIn, walkerIn, doingIn, numbers, machineFrom}
+use Rattle.vhdx_pieces_slots.specs.Slots.{zeros, context_in, header_in, best_in, stage_in, scanner_in, tour_in, surveying_in, phase_in, planner_in, order_in, turn_in, walker_in, doing_in, numbers, machine_from}
 use Rattle.vhdx_pieces_sanity.specs.Sanity.{sane}
 use Rattle.vhdx_pieces_slots.specs.Loading.{same, known, loaded, LoadsOwn, Restores}
 use Rattle.vhdx_pieces_slots.proofs.Restored.{restored}
@@ -43,48 +43,48 @@ restores m s w = rw (restored m w, (decided m).complete s, every-same 64 (number
 
 -- ---- there are always 64
 
-kept : (i : ℕ) (xs slots : List ℕ) → length (inSlots i xs slots) ≡ length slots
-unfolding inSlots
+kept : (i : ℕ) (xs slots : List ℕ) → length (in_slots i xs slots) ≡ length slots
+unfolding in_slots
 kept i [] slots = refl
 kept i (x ∷ xs) slots = kept (i + 1) xs (set slots i x) ∙ length-set slots i x
 
-header-kept : (s : header.Stage) (slots : List ℕ) → length (headerIn s slots) ≡ length slots
-unfolding headerIn
-header-kept headerStage.Identifier slots = kept _ _ _
-header-kept headerStage.First slots = kept _ _ _
-header-kept (headerStage.Second c) slots = kept _ _ _
+header-kept : (s : header.Stage) (slots : List ℕ) → length (header_in s slots) ≡ length slots
+unfolding header_in
+header-kept header_stage.Identifier slots = kept _ _ _
+header-kept header_stage.First slots = kept _ _ _
+header-kept (header_stage.Second c) slots = kept _ _ _
 
-best-kept : (q : Found) (slots : List ℕ) → length (bestIn q slots) ≡ length slots
-unfolding bestIn
+best-kept : (q : Found) (slots : List ℕ) → length (best_in q slots) ≡ length slots
+unfolding best_in
 best-kept (best.At q) slots = kept _ _ _
 best-kept best.Nothing slots = refl
 
-stage-kept : (s : scan.Stage) (slots : List ℕ) → length (stageIn s slots) ≡ length slots
-unfolding stageIn
-stage-kept scanStage.First slots = kept _ _ _
-stage-kept (scanStage.Inside x) slots = kept _ _ _
-stage-kept (scanStage.Tail e) slots = kept _ _ _
+stage-kept : (s : scan.Stage) (slots : List ℕ) → length (stage_in s slots) ≡ length slots
+unfolding stage_in
+stage-kept scan_stage.First slots = kept _ _ _
+stage-kept (scan_stage.Inside x) slots = kept _ _ _
+stage-kept (scan_stage.Tail e) slots = kept _ _ _
 
-phase-kept : (p : Phase) (slots : List ℕ) → length (phaseIn p slots) ≡ length slots
-unfolding phaseIn scannerIn surveyingIn tourIn
+phase-kept : (p : Phase) (slots : List ℕ) → length (phase_in p slots) ≡ length slots
+unfolding phase_in scanner_in surveying_in tour_in
 phase-kept (phase.Header s) slots = header-kept s _ ∙ kept _ _ _
 phase-kept (phase.Scan s) slots = stage-kept s.stage _ ∙ best-kept s.trace.best _ ∙ kept _ _ _ ∙ kept _ _ _
 phase-kept (phase.Survey s) slots = kept _ _ _ ∙ kept _ _ _ ∙ kept _ _ _
 
-turn-kept : (s : walk.Stage) (slots : List ℕ) → length (turnIn s slots) ≡ length slots
-unfolding turnIn
-turn-kept walkStage.Header slots = kept _ _ _
-turn-kept walkStage.Descriptors slots = kept _ _ _
-turn-kept (walkStage.Data d) slots = kept _ _ _
-turn-kept (walkStage.Sector d) slots = kept _ _ _
-turn-kept (walkStage.Zeros e) slots = kept _ _ _
+turn-kept : (s : walk.Stage) (slots : List ℕ) → length (turn_in s slots) ≡ length slots
+unfolding turn_in
+turn-kept walk_stage.Header slots = kept _ _ _
+turn-kept walk_stage.Descriptors slots = kept _ _ _
+turn-kept (walk_stage.Data d) slots = kept _ _ _
+turn-kept (walk_stage.Sector d) slots = kept _ _ _
+turn-kept (walk_stage.Zeros e) slots = kept _ _ _
 
-doing-kept : (d : Doing) (slots : List ℕ) → length (doingIn d slots) ≡ length slots
-unfolding doingIn walkerIn order_in
+doing-kept : (d : Doing) (slots : List ℕ) → length (doing_in d slots) ≡ length slots
+unfolding doing_in walker_in order_in
 doing-kept d slots = turn-kept d.walker.stage _ ∙ kept _ _ _ ∙ kept _ _ _ ∙ kept _ _ _
 
 all_slots : (m : Machine) → length (numbers m) ≡ 64
-unfolding numbers plannerIn contextIn order_in zeros
+unfolding numbers planner_in context_in order_in zeros
 all_slots (Planning p) = phase-kept p.phase _ ∙ kept _ _ _ ∙ kept _ _ _
 all_slots (Growing o) = kept _ _ _ ∙ kept _ _ _
 all_slots (Reading d) = doing-kept d _ ∙ kept _ _ _
@@ -94,11 +94,11 @@ same_lists : (a b : List ℕ) → length a ≡ 64 → length b ≡ 64 → same a
 unfolding same
 same_lists a b p q h = ext_get_or 0 a b (p ∙ sym q) (λ i l. eqb-true _ _ (every-at (λ j. eqb (get_or a j 0) (get_or b j 0)) 64 i h (omega arith)))
 
-pub known-loaded : (ns : List ℕ) (m : Machine) → loaded ns ≡ Known m → (known ns ≡ true) × (machineFrom ns ≡ m)
+pub known-loaded : (ns : List ℕ) (m : Machine) → loaded ns ≡ Known m → (known ns ≡ true) × (machine_from ns ≡ m)
 unfolding loaded
 known-loaded ns m h = go (known ns) h
   where
-    go : (b : Bool) → cond b (Known (machineFrom ns)) Unknown ≡ Known m → (b ≡ true) × (machineFrom ns ≡ m)
+    go : (b : Bool) → cond b (Known (machine_from ns)) Unknown ≡ Known m → (b ≡ true) × (machine_from ns ≡ m)
     go true e = (refl, cc)
     go false e = let z : ◌≡◌ {A = ℕ} 0 1 = cc in absurd (omega arith)
 
@@ -106,5 +106,5 @@ pub loads-own : LoadsOwn
 unfolding known
 loads-own ns m long h =
     let k = known-loaded ns m h in
-    let s = (and-eq-true_iff (sane (machineFrom ns)) (same (numbers (machineFrom ns)) ns)).0 k.0 in
-    sym (ap numbers k.1) ∙ same_lists (numbers (machineFrom ns)) ns (all_slots (machineFrom ns)) long s.1
+    let s = (and-eq-true_iff (sane (machine_from ns)) (same (numbers (machine_from ns)) ns)).0 k.0 in
+    sym (ap numbers k.1) ∙ same_lists (numbers (machine_from ns)) ns (all_slots (machine_from ns)) long s.1

@@ -27,17 +27,17 @@
 --   16 to 19  of data and sector: offset, leading, trailing, rank; of zeros: offset, length
 --
 -- Assumes nothing.
-use Rattle.std.specs.Prelude.{cond, not, List, [], ◌∷◌, ℕ, ◌%◌, eqb, get_or, replicate}
-use Rattle.vhdx_slots.specs.Slots.{bit, inSlots}
+use Rattle.std.specs.Prelude.{cond, not, List, [], ◌∷◌, ℕ, ◌%◌, nat_eq, get_or, replicate}
+use Rattle.vhdx_slots.specs.Slots.{bit, in_slots}
 use Rattle.vhdx_sequence.specs.declared.Found.{Found}
 use Rattle.vhdx_sequence.specs.declared.Found.TheVariants as best
 use Rattle.vhdx_pieces_header.specs.declared.Candidate.{Candidate}
 use Rattle.vhdx_pieces_header.specs.declared.Stage as header
-use Rattle.vhdx_pieces_header.specs.declared.Stage.TheVariants as headerStage
+use Rattle.vhdx_pieces_header.specs.declared.Stage.TheVariants as header_stage
 use Rattle.vhdx_pieces_entry.specs.declared.Reading as entry
 use Rattle.vhdx_pieces_scan.specs.declared.Scanner.{Scanner}
 use Rattle.vhdx_pieces_scan.specs.declared.Stage as scan
-use Rattle.vhdx_pieces_scan.specs.declared.Stage.TheVariants as scanStage
+use Rattle.vhdx_pieces_scan.specs.declared.Stage.TheVariants as scan_stage
 use Rattle.vhdx_pieces_survey.specs.declared.Tour.{Tour}
 use Rattle.vhdx_pieces_plan.specs.declared.Context.{Context}
 use Rattle.vhdx_pieces_plan.specs.declared.Surveying.{Surveying}
@@ -47,7 +47,7 @@ use Rattle.vhdx_pieces_plan.specs.declared.Planner.{Planner}
 use Rattle.vhdx_pieces_plan.specs.declared.Order.{Order}
 use Rattle.vhdx_pieces_walk.specs.declared.Held.{Held}
 use Rattle.vhdx_pieces_walk.specs.declared.Stage as walk
-use Rattle.vhdx_pieces_walk.specs.declared.Stage.TheVariants as walkStage
+use Rattle.vhdx_pieces_walk.specs.declared.Stage.TheVariants as walk_stage
 use Rattle.vhdx_pieces_walk.specs.declared.Walker.{Walker}
 use Rattle.vhdx_pieces.specs.declared.Doing.{Doing}
 use Rattle.vhdx_pieces.specs.declared.Machine.{Machine}
@@ -59,12 +59,12 @@ zeros = replicate 64 0
 
 -- ---- a planner
 
-unfoldable pub contextIn : Context → List ℕ → List ℕ
-contextIn c slots =
-    inSlots 1 (c.length ∷ c.capacity ∷ c.log.offset ∷ c.log.length ∷ c.guid.low ∷ c.guid.high ∷ []) slots
+unfoldable pub context_in : Context → List ℕ → List ℕ
+context_in c slots =
+    in_slots 1 (c.length ∷ c.capacity ∷ c.log.offset ∷ c.log.length ∷ c.guid.low ∷ c.guid.high ∷ []) slots
 
-abbrev pub contextFrom : List ℕ → Context
-contextFrom slots =
+abbrev pub context_from : List ℕ → Context
+context_from slots =
     record {
       length = get_or slots 1 0;
       capacity = get_or slots 2 0;
@@ -74,11 +74,11 @@ contextFrom slots =
 
 -- its header
 
-unfoldable pub headerIn : header.Stage → List ℕ → List ℕ
-headerIn headerStage.Identifier slots = inSlots 8 (1 ∷ []) slots
-headerIn headerStage.First slots = inSlots 8 (2 ∷ []) slots
-headerIn (headerStage.Second c) slots =
-    inSlots 8
+unfoldable pub header_in : header.Stage → List ℕ → List ℕ
+header_in header_stage.Identifier slots = in_slots 8 (1 ∷ []) slots
+header_in header_stage.First slots = in_slots 8 (2 ∷ []) slots
+header_in (header_stage.Second c) slots =
+    in_slots 8
     (3
     ∷ bit c.valid
     ∷ bit c.rules
@@ -91,11 +91,11 @@ headerIn (headerStage.Second c) slots =
     ∷ [])
     slots
 
-abbrev pub candidateFrom : List ℕ → Candidate
-candidateFrom slots =
+abbrev pub candidate_from : List ℕ → Candidate
+candidate_from slots =
     record {
-      valid = not (eqb (get_or slots 9 0) 0);
-      rules = not (eqb (get_or slots 10 0) 0);
+      valid = not (nat_eq (get_or slots 9 0) 0);
+      rules = not (nat_eq (get_or slots 10 0) 0);
       header =
           record {
             slot = get_or slots 11 0;
@@ -106,25 +106,25 @@ candidateFrom slots =
           };
     }
 
-unfoldable pub headerFrom : List ℕ → header.Stage
-headerFrom slots =
-    cond (eqb (get_or slots 8 0) 1) headerStage.Identifier
-    (cond (eqb (get_or slots 8 0) 2) headerStage.First (headerStage.Second (candidateFrom slots)))
+unfoldable pub header_from : List ℕ → header.Stage
+header_from slots =
+    cond (nat_eq (get_or slots 8 0) 1) header_stage.Identifier
+    (cond (nat_eq (get_or slots 8 0) 2) header_stage.First (header_stage.Second (candidate_from slots)))
 
 -- its scan
 
-unfoldable pub bestIn : Found → List ℕ → List ℕ
-bestIn (best.At q) slots = inSlots 16 (1 ∷ q.start ∷ q.more ∷ q.number ∷ []) slots
-bestIn best.Nothing slots = slots
+unfoldable pub best_in : Found → List ℕ → List ℕ
+best_in (best.At q) slots = in_slots 16 (1 ∷ q.start ∷ q.more ∷ q.number ∷ []) slots
+best_in best.Nothing slots = slots
 
-abbrev pub bestFrom : List ℕ → Found
-bestFrom slots =
-    cond (eqb (get_or slots 16 0) 1) (best.At (record { start = get_or slots 17 0; more = get_or slots 18 0; number = get_or slots 19 0 })) best.Nothing
+abbrev pub best_from : List ℕ → Found
+best_from slots =
+    cond (nat_eq (get_or slots 16 0) 1) (best.At (record { start = get_or slots 17 0; more = get_or slots 18 0; number = get_or slots 19 0 })) best.Nothing
 
-unfoldable pub stageIn : scan.Stage → List ℕ → List ℕ
-stageIn scanStage.First slots = inSlots 20 (1 ∷ []) slots
-stageIn (scanStage.Inside x) slots =
-    inSlots 20
+unfoldable pub stage_in : scan.Stage → List ℕ → List ℕ
+stage_in scan_stage.First slots = in_slots 20 (1 ∷ []) slots
+stage_in (scan_stage.Inside x) slots =
+    in_slots 20
     (2
     ∷ x.number
     ∷ x.tail
@@ -137,11 +137,11 @@ stageIn (scanStage.Inside x) slots =
     ∷ x.state
     ∷ [])
     slots
-stageIn (scanStage.Tail e) slots = inSlots 20 (3 ∷ e.size ∷ e.number ∷ e.tail ∷ []) slots
+stage_in (scan_stage.Tail e) slots = in_slots 20 (3 ∷ e.size ∷ e.number ∷ e.tail ∷ []) slots
 
 -- two of its numbers have 32 bits
-abbrev pub readingFrom : List ℕ → entry.Reading
-readingFrom slots =
+abbrev pub reading_from : List ℕ → entry.Reading
+reading_from slots =
     record {
       number = get_or slots 21 0;
       tail = get_or slots 22 0;
@@ -154,17 +154,17 @@ readingFrom slots =
       state = get_or slots 29 0 % 4294967296;
     }
 
-unfoldable pub stageFrom : List ℕ → scan.Stage
-stageFrom slots =
-    cond (eqb (get_or slots 20 0) 1) scanStage.First
-    (cond (eqb (get_or slots 20 0) 2) (scanStage.Inside (readingFrom slots))
-    (scanStage.Tail (record { size = get_or slots 21 0; number = get_or slots 22 0; tail = get_or slots 23 0 })))
+unfoldable pub stage_from : List ℕ → scan.Stage
+stage_from slots =
+    cond (nat_eq (get_or slots 20 0) 1) scan_stage.First
+    (cond (nat_eq (get_or slots 20 0) 2) (scan_stage.Inside (reading_from slots))
+    (scan_stage.Tail (record { size = get_or slots 21 0; number = get_or slots 22 0; tail = get_or slots 23 0 })))
 
-unfoldable pub scannerIn : Scanner → List ℕ → List ℕ
-scannerIn s slots =
-    stageIn s.stage
-    (bestIn s.trace.best
-    (inSlots 8
+unfoldable pub scanner_in : Scanner → List ℕ → List ℕ
+scanner_in s slots =
+    stage_in s.stage
+    (best_in s.trace.best
+    (in_slots 8
     (s.place.pos.at
     ∷ s.place.pos.len
     ∷ s.place.count
@@ -176,25 +176,25 @@ scannerIn s slots =
     ∷ [])
     slots))
 
-unfoldable pub scannerFrom : List ℕ → Scanner
-scannerFrom slots =
+unfoldable pub scanner_from : List ℕ → Scanner
+scanner_from slots =
     record {
       trace =
           record {
             start = record { pos = record { at = get_or slots 11 0; len = get_or slots 12 0 }; count = get_or slots 13 0 };
             next = get_or slots 14 0;
             number = get_or slots 15 0;
-            best = bestFrom slots;
+            best = best_from slots;
           };
       place = record { pos = record { at = get_or slots 8 0; len = get_or slots 9 0 }; count = get_or slots 10 0 };
-      stage = stageFrom slots;
+      stage = stage_from slots;
     }
 
 -- its survey
 
-unfoldable pub tourIn : Tour → List ℕ → List ℕ
-tourIn t slots =
-    inSlots 11
+unfoldable pub tour_in : Tour → List ℕ → List ℕ
+tour_in t slots =
+    in_slots 11
     (t.pos.at
     ∷ t.pos.len
     ∷ t.left
@@ -210,8 +210,8 @@ tourIn t slots =
     ∷ [])
     slots
 
-abbrev pub tourFrom : List ℕ → Tour
-tourFrom slots =
+abbrev pub tour_from : List ℕ → Tour
+tour_from slots =
     record {
       pos = record { at = get_or slots 11 0; len = get_or slots 12 0 };
       left = get_or slots 13 0;
@@ -221,40 +221,40 @@ tourFrom slots =
       read = get_or slots 17 0;
       flushed = get_or slots 18 0;
       last = get_or slots 19 0;
-      found = record { lies = not (eqb (get_or slots 20 0) 0); end = get_or slots 21 0; count = get_or slots 22 0 };
+      found = record { lies = not (nat_eq (get_or slots 20 0) 0); end = get_or slots 21 0; count = get_or slots 22 0 };
     }
 
-unfoldable pub surveyingIn : Surveying → List ℕ → List ℕ
-surveyingIn s slots = tourIn s.tour (inSlots 8 (s.found.start ∷ s.found.more ∷ s.found.number ∷ []) slots)
+unfoldable pub surveying_in : Surveying → List ℕ → List ℕ
+surveying_in s slots = tour_in s.tour (in_slots 8 (s.found.start ∷ s.found.more ∷ s.found.number ∷ []) slots)
 
-unfoldable pub surveyingFrom : List ℕ → Surveying
-surveyingFrom slots = record { found = record { start = get_or slots 8 0; more = get_or slots 9 0; number = get_or slots 10 0 }; tour = tourFrom slots }
+unfoldable pub surveying_from : List ℕ → Surveying
+surveying_from slots = record { found = record { start = get_or slots 8 0; more = get_or slots 9 0; number = get_or slots 10 0 }; tour = tour_from slots }
 
 -- its phase
 
-unfoldable pub phaseIn : Phase → List ℕ → List ℕ
-phaseIn (phase.Header s) slots = headerIn s (inSlots 7 (1 ∷ []) slots)
-phaseIn (phase.Scan s) slots = scannerIn s (inSlots 7 (2 ∷ []) slots)
-phaseIn (phase.Survey s) slots = surveyingIn s (inSlots 7 (3 ∷ []) slots)
+unfoldable pub phase_in : Phase → List ℕ → List ℕ
+phase_in (phase.Header s) slots = header_in s (in_slots 7 (1 ∷ []) slots)
+phase_in (phase.Scan s) slots = scanner_in s (in_slots 7 (2 ∷ []) slots)
+phase_in (phase.Survey s) slots = surveying_in s (in_slots 7 (3 ∷ []) slots)
 
-unfoldable pub phaseFrom : List ℕ → Phase
-phaseFrom slots =
-    cond (eqb (get_or slots 7 0) 1) (phase.Header (headerFrom slots))
-    (cond (eqb (get_or slots 7 0) 2) (phase.Scan (scannerFrom slots)) (phase.Survey (surveyingFrom slots)))
+unfoldable pub phase_from : List ℕ → Phase
+phase_from slots =
+    cond (nat_eq (get_or slots 7 0) 1) (phase.Header (header_from slots))
+    (cond (nat_eq (get_or slots 7 0) 2) (phase.Scan (scanner_from slots)) (phase.Survey (surveying_from slots)))
 
-unfoldable pub plannerIn : Planner → List ℕ → List ℕ
-plannerIn p slots = phaseIn p.phase (contextIn p.context slots)
+unfoldable pub planner_in : Planner → List ℕ → List ℕ
+planner_in p slots = phase_in p.phase (context_in p.context slots)
 
-unfoldable pub plannerFrom : List ℕ → Planner
-plannerFrom slots = record { context = contextFrom slots; phase = phaseFrom slots }
+unfoldable pub planner_from : List ℕ → Planner
+planner_from slots = record { context = context_from slots; phase = phase_from slots }
 
 -- ---- an order
 
 unfoldable pub order_in : Order → List ℕ → List ℕ
-order_in o slots = inSlots 1 (o.length ∷ o.count ∷ o.log.offset ∷ o.log.length ∷ o.start ∷ o.left ∷ []) slots
+order_in o slots = in_slots 1 (o.length ∷ o.count ∷ o.log.offset ∷ o.log.length ∷ o.start ∷ o.left ∷ []) slots
 
-abbrev pub orderFrom : List ℕ → Order
-orderFrom slots =
+abbrev pub order_from : List ℕ → Order
+order_from slots =
     record {
       length = get_or slots 1 0;
       count = get_or slots 2 0;
@@ -265,33 +265,33 @@ orderFrom slots =
 
 -- ---- an order that is being done
 
-unfoldable pub turnIn : walk.Stage → List ℕ → List ℕ
-turnIn walkStage.Header slots = inSlots 15 (1 ∷ []) slots
-turnIn walkStage.Descriptors slots = inSlots 15 (2 ∷ []) slots
-turnIn (walkStage.Data d) slots = inSlots 15 (3 ∷ d.offset ∷ d.leading ∷ d.trailing ∷ d.rank ∷ []) slots
-turnIn (walkStage.Sector d) slots = inSlots 15 (4 ∷ d.offset ∷ d.leading ∷ d.trailing ∷ d.rank ∷ []) slots
-turnIn (walkStage.Zeros e) slots = inSlots 15 (5 ∷ e.offset ∷ e.length ∷ []) slots
+unfoldable pub turn_in : walk.Stage → List ℕ → List ℕ
+turn_in walk_stage.Header slots = in_slots 15 (1 ∷ []) slots
+turn_in walk_stage.Descriptors slots = in_slots 15 (2 ∷ []) slots
+turn_in (walk_stage.Data d) slots = in_slots 15 (3 ∷ d.offset ∷ d.leading ∷ d.trailing ∷ d.rank ∷ []) slots
+turn_in (walk_stage.Sector d) slots = in_slots 15 (4 ∷ d.offset ∷ d.leading ∷ d.trailing ∷ d.rank ∷ []) slots
+turn_in (walk_stage.Zeros e) slots = in_slots 15 (5 ∷ e.offset ∷ e.length ∷ []) slots
 
 -- one of its numbers has 32 bits
-abbrev pub heldFrom : List ℕ → Held
-heldFrom slots =
+abbrev pub held_from : List ℕ → Held
+held_from slots =
     record { offset = get_or slots 16 0; leading = get_or slots 17 0; trailing = get_or slots 18 0 % 4294967296; rank = get_or slots 19 0 }
 
-unfoldable pub turnFrom : List ℕ → walk.Stage
-turnFrom slots =
-    cond (eqb (get_or slots 15 0) 1) walkStage.Header
-    (cond (eqb (get_or slots 15 0) 2) walkStage.Descriptors
-    (cond (eqb (get_or slots 15 0) 3) (walkStage.Data (heldFrom slots))
-    (cond (eqb (get_or slots 15 0) 4) (walkStage.Sector (heldFrom slots))
-    (walkStage.Zeros (record { offset = get_or slots 16 0; length = get_or slots 17 0 })))))
+unfoldable pub turn_from : List ℕ → walk.Stage
+turn_from slots =
+    cond (nat_eq (get_or slots 15 0) 1) walk_stage.Header
+    (cond (nat_eq (get_or slots 15 0) 2) walk_stage.Descriptors
+    (cond (nat_eq (get_or slots 15 0) 3) (walk_stage.Data (held_from slots))
+    (cond (nat_eq (get_or slots 15 0) 4) (walk_stage.Sector (held_from slots))
+    (walk_stage.Zeros (record { offset = get_or slots 16 0; length = get_or slots 17 0 })))))
 
-unfoldable pub walkerIn : Walker → List ℕ → List ℕ
-walkerIn w slots =
-    turnIn w.stage
-    (inSlots 8 (w.pos.at ∷ w.pos.len ∷ w.left ∷ w.count ∷ w.size ∷ w.index ∷ w.«data» ∷ []) slots)
+unfoldable pub walker_in : Walker → List ℕ → List ℕ
+walker_in w slots =
+    turn_in w.stage
+    (in_slots 8 (w.pos.at ∷ w.pos.len ∷ w.left ∷ w.count ∷ w.size ∷ w.index ∷ w.«data» ∷ []) slots)
 
-unfoldable pub walkerFrom : List ℕ → Walker
-walkerFrom slots =
+unfoldable pub walker_from : List ℕ → Walker
+walker_from slots =
     record {
       pos = record { at = get_or slots 8 0; len = get_or slots 9 0 };
       left = get_or slots 10 0;
@@ -299,26 +299,26 @@ walkerFrom slots =
       size = get_or slots 12 0;
       index = get_or slots 13 0;
       «data» = get_or slots 14 0;
-      stage = turnFrom slots;
+      stage = turn_from slots;
     }
 
-unfoldable pub doingIn : Doing → List ℕ → List ℕ
-doingIn d slots = walkerIn d.walker (inSlots 7 (d.unwritten ∷ []) (order_in d.order slots))
+unfoldable pub doing_in : Doing → List ℕ → List ℕ
+doing_in d slots = walker_in d.walker (in_slots 7 (d.unwritten ∷ []) (order_in d.order slots))
 
-unfoldable pub doingFrom : List ℕ → Doing
-doingFrom slots = record { order = orderFrom slots; walker = walkerFrom slots; unwritten = get_or slots 7 0 }
+unfoldable pub doing_from : List ℕ → Doing
+doing_from slots = record { order = order_from slots; walker = walker_from slots; unwritten = get_or slots 7 0 }
 
 -- ---- a machine
 
 unfoldable pub numbers : Machine → List ℕ
-numbers (Planning p) = plannerIn p (inSlots 0 (1 ∷ []) zeros)
-numbers (Growing o) = order_in o (inSlots 0 (2 ∷ []) zeros)
-numbers (Reading d) = doingIn d (inSlots 0 (3 ∷ []) zeros)
-numbers (Writing d) = doingIn d (inSlots 0 (4 ∷ []) zeros)
+numbers (Planning p) = planner_in p (in_slots 0 (1 ∷ []) zeros)
+numbers (Growing o) = order_in o (in_slots 0 (2 ∷ []) zeros)
+numbers (Reading d) = doing_in d (in_slots 0 (3 ∷ []) zeros)
+numbers (Writing d) = doing_in d (in_slots 0 (4 ∷ []) zeros)
 
 -- of any numbers; those of no machine are not the numbers of the machine that they are read as
-unfoldable pub machineFrom : List ℕ → Machine
-machineFrom slots =
-    cond (eqb (get_or slots 0 0) 1) (Planning (plannerFrom slots))
-    (cond (eqb (get_or slots 0 0) 2) (Growing (orderFrom slots))
-    (cond (eqb (get_or slots 0 0) 3) (Reading (doingFrom slots)) (Writing (doingFrom slots))))
+unfoldable pub machine_from : List ℕ → Machine
+machine_from slots =
+    cond (nat_eq (get_or slots 0 0) 1) (Planning (planner_from slots))
+    (cond (nat_eq (get_or slots 0 0) 2) (Growing (order_from slots))
+    (cond (nat_eq (get_or slots 0 0) 3) (Reading (doing_from slots)) (Writing (doing_from slots))))

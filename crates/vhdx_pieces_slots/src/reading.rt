@@ -1,6 +1,6 @@
 // The parts of a machine out of their slots. Of numbers that were not written here something is read, too.
 ghost use Rattle.std.specs.Prelude.{◌≡◌};
-ghost use Rattle.vhdx_pieces_slots.specs.Slots.{contextFrom, candidateFrom, headerFrom, bestFrom, readingFrom, stageFrom, scannerFrom, tourFrom, surveyingFrom, phaseFrom, plannerFrom, orderFrom, heldFrom, turnFrom, walkerFrom, doingFrom, machineFrom};
+ghost use Rattle.vhdx_pieces_slots.specs.Slots.{context_from, candidate_from, header_from, best_from, reading_from, stage_from, scanner_from, tour_from, surveying_from, phase_from, planner_from, order_from, held_from, turn_from, walker_from, doing_from, machine_from};
 
 use extent::Extent;
 use field::Guid;
@@ -20,7 +20,7 @@ use vhdx_sequence::scan::Trace;
 use vhdx_sequence::{Found, Sequence};
 
 pub fn machine(slots: &[u64; 64]) -> Machine
-    ensures { result ≡ machineFrom slots.now }
+    ensures { result ≡ machine_from slots.now }
 {
     if slots[0] == 1 {
         return Machine::Planning(planner(slots));
@@ -35,7 +35,7 @@ pub fn machine(slots: &[u64; 64]) -> Machine
 }
 
 fn planner(slots: &[u64; 64]) -> Planner
-    ensures { result ≡ plannerFrom slots.now }
+    ensures { result ≡ planner_from slots.now }
 {
     Planner {
         context: context(slots),
@@ -44,7 +44,7 @@ fn planner(slots: &[u64; 64]) -> Planner
 }
 
 fn context(slots: &[u64; 64]) -> Context
-    ensures { result ≡ contextFrom slots.now }
+    ensures { result ≡ context_from slots.now }
 {
     Context {
         length: slots[1],
@@ -61,7 +61,7 @@ fn context(slots: &[u64; 64]) -> Context
 }
 
 fn phase(slots: &[u64; 64]) -> Phase
-    ensures { result ≡ phaseFrom slots.now }
+    ensures { result ≡ phase_from slots.now }
 {
     if slots[7] == 1 {
         return Phase::Header(header(slots));
@@ -73,7 +73,7 @@ fn phase(slots: &[u64; 64]) -> Phase
 }
 
 fn header(slots: &[u64; 64]) -> vhdx_pieces_header::Stage
-    ensures { result ≡ headerFrom slots.now }
+    ensures { result ≡ header_from slots.now }
 {
     if slots[8] == 1 {
         return vhdx_pieces_header::Stage::Identifier;
@@ -85,7 +85,7 @@ fn header(slots: &[u64; 64]) -> vhdx_pieces_header::Stage
 }
 
 fn candidate(slots: &[u64; 64]) -> Candidate
-    ensures { result ≡ candidateFrom slots.now }
+    ensures { result ≡ candidate_from slots.now }
 {
     Candidate {
         valid: slots[9] != 0,
@@ -104,7 +104,7 @@ fn candidate(slots: &[u64; 64]) -> Candidate
 }
 
 fn scanner(slots: &[u64; 64]) -> Scanner
-    ensures { result ≡ scannerFrom slots.now }
+    ensures { result ≡ scanner_from slots.now }
 {
     Scanner {
         trace: Trace {
@@ -131,7 +131,7 @@ fn scanner(slots: &[u64; 64]) -> Scanner
 }
 
 fn best(slots: &[u64; 64]) -> Found
-    ensures { result ≡ bestFrom slots.now }
+    ensures { result ≡ best_from slots.now }
 {
     if slots[16] == 1 {
         return Found::At(Sequence {
@@ -144,7 +144,7 @@ fn best(slots: &[u64; 64]) -> Found
 }
 
 fn stage(slots: &[u64; 64]) -> vhdx_pieces_scan::Stage
-    ensures { result ≡ stageFrom slots.now }
+    ensures { result ≡ stage_from slots.now }
 {
     if slots[20] == 1 {
         return vhdx_pieces_scan::Stage::First;
@@ -160,7 +160,7 @@ fn stage(slots: &[u64; 64]) -> vhdx_pieces_scan::Stage
 }
 
 fn reading(slots: &[u64; 64]) -> Reading
-    ensures { result ≡ readingFrom slots.now }
+    ensures { result ≡ reading_from slots.now }
 {
     Reading {
         number: slots[21],
@@ -176,7 +176,7 @@ fn reading(slots: &[u64; 64]) -> Reading
 }
 
 fn surveying(slots: &[u64; 64]) -> Surveying
-    ensures { result ≡ surveyingFrom slots.now }
+    ensures { result ≡ surveying_from slots.now }
 {
     Surveying {
         found: Sequence {
@@ -189,7 +189,7 @@ fn surveying(slots: &[u64; 64]) -> Surveying
 }
 
 fn tour(slots: &[u64; 64]) -> Tour
-    ensures { result ≡ tourFrom slots.now }
+    ensures { result ≡ tour_from slots.now }
 {
     Tour {
         pos: RingPos {
@@ -212,7 +212,7 @@ fn tour(slots: &[u64; 64]) -> Tour
 }
 
 fn order(slots: &[u64; 64]) -> Order
-    ensures { result ≡ orderFrom slots.now }
+    ensures { result ≡ order_from slots.now }
 {
     Order {
         length: slots[1],
@@ -227,7 +227,7 @@ fn order(slots: &[u64; 64]) -> Order
 }
 
 fn doing(slots: &[u64; 64]) -> Doing
-    ensures { result ≡ doingFrom slots.now }
+    ensures { result ≡ doing_from slots.now }
 {
     Doing {
         order: order(slots),
@@ -237,7 +237,7 @@ fn doing(slots: &[u64; 64]) -> Doing
 }
 
 fn walker(slots: &[u64; 64]) -> Walker
-    ensures { result ≡ walkerFrom slots.now }
+    ensures { result ≡ walker_from slots.now }
 {
     Walker {
         pos: RingPos {
@@ -254,7 +254,7 @@ fn walker(slots: &[u64; 64]) -> Walker
 }
 
 fn turn(slots: &[u64; 64]) -> vhdx_pieces_walk::Stage
-    ensures { result ≡ turnFrom slots.now }
+    ensures { result ≡ turn_from slots.now }
 {
     if slots[15] == 1 {
         return vhdx_pieces_walk::Stage::Header;
@@ -275,7 +275,7 @@ fn turn(slots: &[u64; 64]) -> vhdx_pieces_walk::Stage
 }
 
 fn held(slots: &[u64; 64]) -> Held
-    ensures { result ≡ heldFrom slots.now }
+    ensures { result ≡ held_from slots.now }
 {
     Held {
         offset: slots[16],

@@ -1,6 +1,6 @@
 // The parts of a machine into their slots.
 ghost use Rattle.std.specs.Prelude.{◌≡◌};
-ghost use Rattle.vhdx_pieces_slots.specs.Slots.{contextIn, headerIn, bestIn, stageIn, scannerIn, tourIn, surveyingIn, phaseIn, plannerIn, order_in, turnIn, walkerIn, doingIn};
+ghost use Rattle.vhdx_pieces_slots.specs.Slots.{context_in, header_in, best_in, stage_in, scanner_in, tour_in, surveying_in, phase_in, planner_in, order_in, turn_in, walker_in, doing_in};
 
 use vhdx_pieces::Doing;
 use vhdx_pieces_plan::{Context, Order, Phase, Planner, Surveying};
@@ -10,7 +10,7 @@ use vhdx_pieces_walk::Walker;
 use vhdx_sequence::Found;
 
 pub fn planner(p: Planner, slots: &mut [u64; 64])
-    ensures { slots.new ≡ plannerIn p slots.old }
+    ensures { slots.new ≡ planner_in p slots.old }
 {
     let c = p.context;
     let phase = p.phase;
@@ -19,7 +19,7 @@ pub fn planner(p: Planner, slots: &mut [u64; 64])
 }
 
 fn context(c: Context, slots: &mut [u64; 64])
-    ensures { slots.new ≡ contextIn c slots.old }
+    ensures { slots.new ≡ context_in c slots.old }
 {
     let log = c.log;
     let guid = c.guid;
@@ -32,7 +32,7 @@ fn context(c: Context, slots: &mut [u64; 64])
 }
 
 fn phase_of(phase: Phase, slots: &mut [u64; 64])
-    ensures { slots.new ≡ phaseIn phase slots.old }
+    ensures { slots.new ≡ phase_in phase slots.old }
 {
     match phase {
         Phase::Header(s) => {
@@ -51,7 +51,7 @@ fn phase_of(phase: Phase, slots: &mut [u64; 64])
 }
 
 fn header(stage: vhdx_pieces_header::Stage, slots: &mut [u64; 64])
-    ensures { slots.new ≡ headerIn stage slots.old }
+    ensures { slots.new ≡ header_in stage slots.old }
 {
     match stage {
         vhdx_pieces_header::Stage::Identifier => {
@@ -77,7 +77,7 @@ fn header(stage: vhdx_pieces_header::Stage, slots: &mut [u64; 64])
 }
 
 fn scanner(s: Scanner, slots: &mut [u64; 64])
-    ensures { slots.new ≡ scannerIn s slots.old }
+    ensures { slots.new ≡ scanner_in s slots.old }
 {
     let place = s.place;
     let here = place.pos;
@@ -99,7 +99,7 @@ fn scanner(s: Scanner, slots: &mut [u64; 64])
 }
 
 fn best(found: Found, slots: &mut [u64; 64])
-    ensures { slots.new ≡ bestIn found slots.old }
+    ensures { slots.new ≡ best_in found slots.old }
 {
     match found {
         Found::At(q) => {
@@ -113,7 +113,7 @@ fn best(found: Found, slots: &mut [u64; 64])
 }
 
 fn stage_of(stage: vhdx_pieces_scan::Stage, slots: &mut [u64; 64])
-    ensures { slots.new ≡ stageIn stage slots.old }
+    ensures { slots.new ≡ stage_in stage slots.old }
 {
     match stage {
         vhdx_pieces_scan::Stage::First => {
@@ -141,7 +141,7 @@ fn stage_of(stage: vhdx_pieces_scan::Stage, slots: &mut [u64; 64])
 }
 
 fn surveying(s: Surveying, slots: &mut [u64; 64])
-    ensures { slots.new ≡ surveyingIn s slots.old }
+    ensures { slots.new ≡ surveying_in s slots.old }
 {
     let found = s.found;
     let t = s.tour;
@@ -152,7 +152,7 @@ fn surveying(s: Surveying, slots: &mut [u64; 64])
 }
 
 fn tour(t: Tour, slots: &mut [u64; 64])
-    ensures { slots.new ≡ tourIn t slots.old }
+    ensures { slots.new ≡ tour_in t slots.old }
 {
     let pos = t.pos;
     let found = t.found;
@@ -183,7 +183,7 @@ pub fn order(o: Order, slots: &mut [u64; 64])
 }
 
 pub fn doing(d: Doing, slots: &mut [u64; 64])
-    ensures { slots.new ≡ doingIn d slots.old }
+    ensures { slots.new ≡ doing_in d slots.old }
 {
     let o = d.order;
     let w = d.walker;
@@ -193,7 +193,7 @@ pub fn doing(d: Doing, slots: &mut [u64; 64])
 }
 
 fn walker(w: Walker, slots: &mut [u64; 64])
-    ensures { slots.new ≡ walkerIn w slots.old }
+    ensures { slots.new ≡ walker_in w slots.old }
 {
     let pos = w.pos;
     let stage = w.stage;
@@ -208,7 +208,7 @@ fn walker(w: Walker, slots: &mut [u64; 64])
 }
 
 fn turn(stage: vhdx_pieces_walk::Stage, slots: &mut [u64; 64])
-    ensures { slots.new ≡ turnIn stage slots.old }
+    ensures { slots.new ≡ turn_in stage slots.old }
 {
     match stage {
         vhdx_pieces_walk::Stage::Header => {

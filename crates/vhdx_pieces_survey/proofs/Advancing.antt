@@ -11,21 +11,21 @@ use lib.Dec.{eqb, leb, ltb, eqb-suc-zero}
 use borrow.Author.Tests.{leb-true, ltb-true, eqb-true, eqb-false}
 use Rattle.vhdx_entry.specs.declared.ring.RingPos.{RingPos}
 use Rattle.vhdx_entry.specs.Ring.{advanced}
-use Rattle.vhdx_entry.specs.Entry.{descriptorSectors}
+use Rattle.vhdx_entry.specs.Entry.{descriptor_sectors}
 use Rattle.vhdx_log.specs.declared.survey.Survey.{Survey}
-use Rattle.vhdx_pieces_entry.specs.Pass.{fromOf, placesIn}
+use Rattle.vhdx_pieces_entry.specs.Pass.{from_of, places_in}
 use Rattle.vhdx_pieces_entry.proofs.Laws.{chosen, falls}
 use Rattle.vhdx_pieces_survey.specs.declared.Tour.{Tour}
 use Rattle.vhdx_pieces_survey.specs.declared.Step.{Step}
 use Rattle.vhdx_pieces_survey.specs.declared.Step.TheVariants.{Sector}
-use Rattle.vhdx_pieces_survey.specs.Touring.{atHeader, opened, further, here, empty, fits, movedOn, passed, step_of, Standing, Opened, Sane, Onward, left_of, SurveyAdvances, SurveyStarts}
+use Rattle.vhdx_pieces_survey.specs.Touring.{at_header, opened, further, here, empty, fits, moved_on, passed, step_of, Standing, Opened, Sane, Onward, left_of, SurveyAdvances, SurveyStarts}
 
-none_from : (k : ℕ) → fromOf (k + 1) ≡ 0
+none_from : (k : ℕ) → from_of (k + 1) ≡ 0
 none_from k = rw (add-one k, eqb-suc-zero k)
 
 -- a sector that does not have the last descriptor is full
-next_start : (k seen count : ℕ) → 64 + 32 * seen ≡ k * 4096 + fromOf k → seen + min (count - seen) (placesIn k) < count
-    → 64 + 32 * (seen + min (count - seen) (placesIn k)) ≡ (k + 1) * 4096 + fromOf (k + 1)
+next_start : (k seen count : ℕ) → 64 + 32 * seen ≡ k * 4096 + from_of k → seen + min (count - seen) (places_in k) < count
+    → 64 + 32 * (seen + min (count - seen) (places_in k)) ≡ (k + 1) * 4096 + from_of (k + 1)
 next_start zero seen count h l = omega arith
 next_start (suc k) seen count h l =
     let a : 64 + 32 * seen ≡ suc k * 4096 + 0 = h ∙ ap (λ (b : Bool). suc k * 4096 + cond b 64 0) (eqb-suc-zero k) in
@@ -45,15 +45,15 @@ further-sane t sv o l =
       short = omega (arith, s, none_from t.read, o.front, o.size);
     }
 
-entry-sane : (pos : RingPos) (left flushed last : ℕ) (sv : Survey) → pos.at < pos.len → pos.len < 1048576 → 0 < left → left ≤ pos.len → Sane (atHeader pos left flushed last sv)
+entry-sane : (pos : RingPos) (left flushed last : ℕ) (sv : Survey) → pos.at < pos.len → pos.len < 1048576 → 0 < left → left ≤ pos.len → Sane (at_header pos left flushed last sv)
 entry-sane pos left flushed last sv a b c d =
     record { standing = record { on = a; few = b; some = c; bounded = d }; inside = λ h. absurd (omega (arith, h)); short = omega arith }
 
 pub opened-is : (t : Tour) (s : List ℕ) → Standing t → fits (opened t s) ≡ true → Opened (opened t s)
 opened-is t s st f =
     let o = opened t s in
-    let both = (and-eq-true_iff (leb (descriptorSectors o.count) o.size) (leb o.size o.pos.len)).0 f in
-    let front : descriptorSectors o.count ≤ o.size = leb-true _ _ both.0 in
+    let both = (and-eq-true_iff (leb (descriptor_sectors o.count) o.size) (leb o.size o.pos.len)).0 f in
+    let front : descriptor_sectors o.count ≤ o.size = leb-true _ _ both.0 in
     let size : o.size ≤ o.pos.len = leb-true _ _ both.1 in
     record {
       standing = record { on = st.on; few = st.few; some = st.some; bounded = st.bounded };
@@ -68,8 +68,8 @@ opened-is t s st f =
 abbrev Below : ℕ → ℕ → Step → Type 0
 Below n m r = Onward n r × (left_of r < m)
 
-moves : (t : Tour) (sv : Survey) → Opened t → t.read < t.pos.len → Below t.pos.len (left_of (Sector t)) (movedOn t (here t) sv)
-unfolding movedOn
+moves : (t : Tour) (sv : Survey) → Opened t → t.read < t.pos.len → Below t.pos.len (left_of (Sector t)) (moved_on t (here t) sv)
+unfolding moved_on
 moves t sv o r =
     let n = t.pos.len in
     let P = Below n (left_of (Sector t)) in

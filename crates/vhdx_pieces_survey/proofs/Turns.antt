@@ -9,18 +9,18 @@ use native.Mathlib.Omega.{arith}
 use lib.Dec.{eqb, eqb-suc-zero}
 use Rattle.extent.specs.declared.Extent.{Extent}
 use Rattle.vhdx_log.specs.declared.survey.Survey.{Survey}
-use Rattle.vhdx_pieces_entry.specs.Sector.{descriptorIn}
-use Rattle.vhdx_pieces_entry.specs.Pass.{fromOf, placesIn}
+use Rattle.vhdx_pieces_entry.specs.Sector.{descriptor_in}
+use Rattle.vhdx_pieces_entry.specs.Pass.{from_of, places_in}
 use Rattle.vhdx_pieces_survey.specs.declared.Tour.{Tour}
 use Rattle.vhdx_pieces_survey.specs.declared.Step.{Step}
 use Rattle.vhdx_pieces_survey.specs.declared.Step.TheVariants.{Broken}
-use Rattle.vhdx_pieces_survey.specs.Touring.{addedBy, surveyIn, opened, fits, passed, step_of}
+use Rattle.vhdx_pieces_survey.specs.Touring.{added_by, survey_in, opened, fits, passed, step_of}
 
-pub survey-more : (e : Extent) (sv : Survey) (s : List ℕ) (from i : ℕ) → surveyIn e sv s from (i + 1) ≡ addedBy e (surveyIn e sv s from i) (descriptorIn s from i)
-unfolding surveyIn
+pub survey-more : (e : Extent) (sv : Survey) (s : List ℕ) (from i : ℕ) → survey_in e sv s from (i + 1) ≡ added_by e (survey_in e sv s from i) (descriptor_in s from i)
+unfolding survey_in
 survey-more e sv s from i = rw (add-one i)
 
-pub fits-here : (k seen count : ℕ) → 64 + 32 * seen ≡ k * 4096 + fromOf k → fromOf k + 32 * min (count - seen) (placesIn k) ≤ 4096
+pub fits-here : (k seen count : ℕ) → 64 + 32 * seen ≡ k * 4096 + from_of k → from_of k + 32 * min (count - seen) (places_in k) ≤ 4096
 fits-here zero seen count h = omega arith
 fits-here (suc k) seen count h = rw (eqb-suc-zero k) (omega arith)
 

@@ -1,56 +1,56 @@
 -- What a found sequence's descriptors and its head say, in pieces: what a tour over its entries wants, and what it does with it.
 -- Assumes nothing.
-use Rattle.std.specs.Prelude.{Bool, false, cond, ◌&&◌, List, ◌≡◌, ℕ, zero, suc, ◌+◌, ◌-◌, ◌*◌, ◌/◌, ◌%◌, ◌≤◌, ◌<◌, min, eqb, leb, ltb}
+use Rattle.std.specs.Prelude.{Bool, false, cond, ◌&&◌, List, ◌≡◌, ℕ, zero, suc, ◌+◌, ◌-◌, ◌*◌, ◌/◌, ◌%◌, ◌≤◌, ◌<◌, min, nat_eq, nat_le, nat_lt}
 use Rattle.extent.specs.declared.Extent.{Extent}
 use Rattle.vhdx_entry.specs.declared.ring.RingPos.{RingPos}
-use Rattle.vhdx_entry.specs.Ring.{sectorCount, sectorAt, advanced}
-use Rattle.vhdx_entry.specs.Entry.{fileOffset, descriptorCount, descriptorSectors, entryLength, flushedFileOffset, lastFileOffset}
-use Rattle.vhdx_walk.specs.Entries.{head, allDescriptors}
-use Rattle.vhdx_walk.specs.Bytes.{entriesFrom}
+use Rattle.vhdx_entry.specs.Ring.{sector_count, sector_at, advanced}
+use Rattle.vhdx_entry.specs.Entry.{file_offset, descriptor_count, descriptor_sectors, entry_length, flushed_file_offset, last_file_offset}
+use Rattle.vhdx_walk.specs.Entries.{head, all_descriptors}
+use Rattle.vhdx_walk.specs.Bytes.{entries_from}
 use Rattle.vhdx_walk.specs.Cursor.{Walkable}
 use Rattle.vhdx_log.specs.declared.survey.Survey.{Survey}
-use Rattle.vhdx_log.specs.Survey.{surveyOf, added}
-use Rattle.vhdx_pieces_entry.specs.Sector.{descriptorIn, lengthIn}
-use Rattle.vhdx_pieces_entry.specs.Pass.{fromOf, placesIn}
+use Rattle.vhdx_log.specs.Survey.{survey_of, added}
+use Rattle.vhdx_pieces_entry.specs.Sector.{descriptor_in, length_in}
+use Rattle.vhdx_pieces_entry.specs.Pass.{from_of, places_in}
 use Rattle.vhdx_pieces_survey.specs.declared.Tour.{Tour}
 use Rattle.vhdx_pieces_survey.specs.declared.Report.{Report}
 use Rattle.vhdx_pieces_survey.specs.declared.Step.{Step}
 use Rattle.vhdx_pieces_survey.specs.declared.Step.TheVariants.{Sector, Ended, Broken}
 
 -- a survey with one descriptor more
-unfoldable pub addedBy : Extent → Survey → List ℕ → Survey
-addedBy log sv d = added log sv (fileOffset d) (lengthIn d)
+unfoldable pub added_by : Extent → Survey → List ℕ → Survey
+added_by log sv d = added log sv (file_offset d) (length_in d)
 
 -- with the m descriptors from byte `from` of a sector on
-unfoldable pub surveyIn : Extent → Survey → List ℕ → ℕ → ℕ → Survey
-surveyIn log sv s from zero = sv
-surveyIn log sv s from (suc m) = addedBy log (surveyIn log sv s from m) (descriptorIn s from m)
+unfoldable pub survey_in : Extent → Survey → List ℕ → ℕ → ℕ → Survey
+survey_in log sv s from zero = sv
+survey_in log sv s from (suc m) = added_by log (survey_in log sv s from m) (descriptor_in s from m)
 
 -- the sector of the log that is wanted
-abbrev pub wantedOf : Tour → ℕ
-wantedOf t = (t.pos.at + t.read) % t.pos.len
+abbrev pub wanted_of : Tour → ℕ
+wanted_of t = (t.pos.at + t.read) % t.pos.len
 
-abbrev pub atHeader : RingPos → ℕ → ℕ → ℕ → Survey → Tour
-atHeader pos left flushed last found =
+abbrev pub at_header : RingPos → ℕ → ℕ → ℕ → Survey → Tour
+at_header pos left flushed last found =
     record { pos = pos; left = left; count = 0; size = 0; seen = 0; read = 0; flushed = flushed; last = last; found = found }
 
 abbrev pub empty : Survey
 empty = record { lies = false; end = 0; count = 0 }
 
 abbrev pub started : RingPos → ℕ → Step
-started pos more = Sector (atHeader pos (more + 1) 0 0 empty)
+started pos more = Sector (at_header pos (more + 1) 0 0 empty)
 
 abbrev pub opened : Tour → List ℕ → Tour
 opened t h =
     record {
       pos = t.pos;
       left = t.left;
-      count = descriptorCount h;
-      size = entryLength h / 4096;
+      count = descriptor_count h;
+      size = entry_length h / 4096;
       seen = 0;
       read = 0;
-      flushed = flushedFileOffset h;
-      last = lastFileOffset h;
+      flushed = flushed_file_offset h;
+      last = last_file_offset h;
       found = t.found;
     }
 
@@ -69,24 +69,24 @@ further t m sv =
     }
 
 -- past m descriptors, with the survey that they made
-unfoldable pub movedOn : Tour → ℕ → Survey → Step
-movedOn t m sv =
-    cond (ltb (t.seen + m) t.count) (Sector (further t m sv))
-    (cond (ltb 1 t.left) (Sector (atHeader (advanced t.pos t.size) (t.left - 1) t.flushed t.last sv))
+unfoldable pub moved_on : Tour → ℕ → Survey → Step
+moved_on t m sv =
+    cond (nat_lt (t.seen + m) t.count) (Sector (further t m sv))
+    (cond (nat_lt 1 t.left) (Sector (at_header (advanced t.pos t.size) (t.left - 1) t.flushed t.last sv))
     (Ended (record { flushed = t.flushed; last = t.last; found = sv })))
 
 -- how many descriptors the next sector has
 abbrev pub here : Tour → ℕ
-here t = min (t.count - t.seen) (placesIn t.read)
+here t = min (t.count - t.seen) (places_in t.read)
 
 unfoldable pub passed : Extent → Tour → List ℕ → Step
-passed log t s = movedOn t (here t) (surveyIn log t.found s (fromOf t.read) (here t))
+passed log t s = moved_on t (here t) (survey_in log t.found s (from_of t.read) (here t))
 
 abbrev pub fits : Tour → Bool
-fits t = leb (descriptorSectors t.count) t.size && leb t.size t.pos.len
+fits t = nat_le (descriptor_sectors t.count) t.size && nat_le t.size t.pos.len
 
 unfoldable pub step_of : Extent → Tour → List ℕ → Step
-step_of log t s = cond (eqb t.read 0) (cond (fits (opened t s)) (passed log (opened t s) s) Broken) (passed log t s)
+step_of log t s = cond (nat_eq t.read 0) (cond (fits (opened t s)) (passed log (opened t s) s) Broken) (passed log t s)
 
 -- ---- what a tour keeps to, whatever is fed
 
@@ -101,8 +101,8 @@ pub record Opened (t : Tour) : Type 0 where
   pub standing : Standing t
   pub small : t.count < 4294967296
   pub seen : t.seen ≤ t.count
-  pub starts : 64 + 32 * t.seen ≡ t.read * 4096 + fromOf t.read
-  pub front : descriptorSectors t.count ≤ t.size
+  pub starts : 64 + 32 * t.seen ≡ t.read * 4096 + from_of t.read
+  pub front : descriptor_sectors t.count ≤ t.size
   pub size : t.size ≤ t.pos.len
 
 -- the sector was used up
@@ -144,18 +144,18 @@ SurveyStarts =
 -- fed the sectors of a log that it wants, it ends with this report
 pub data Surveys (log : List ℕ) (e : Extent) : Step → Report → Type 0 where
   stop : {r : Report} → Surveys log e (Ended r) r
-  next : {t : Tour} {r : Report} → wantedOf t < sectorCount log → Surveys log e (step_of e t (sectorAt log (wantedOf t))) r → Surveys log e (Sector t) r
+  next : {t : Tour} {r : Report} → wanted_of t < sector_count log → Surveys log e (step_of e t (sector_at log (wanted_of t))) r → Surveys log e (Sector t) r
 
 -- of the entry at sector s and the k after it
-abbrev pub reportOf : List ℕ → Extent → ℕ → ℕ → Report
-reportOf log e s k =
+abbrev pub report_of : List ℕ → Extent → ℕ → ℕ → Report
+report_of log e s k =
     record {
-      flushed = (head (entriesFrom log s k)).flushed;
-      last = (head (entriesFrom log s k)).last;
-      found = surveyOf e (allDescriptors (entriesFrom log s k));
+      flushed = (head (entries_from log s k)).flushed;
+      last = (head (entries_from log s k)).last;
+      found = survey_of e (all_descriptors (entries_from log s k));
     }
 
 abbrev pub SurveysAll : Type 0
 SurveysAll =
     (log : List ℕ) (e : Extent) (s k : ℕ) → Walkable log s k
-    → Surveys log e (started (record { at = s; len = sectorCount log }) k) (reportOf log e s k)
+    → Surveys log e (started (record { at = s; len = sector_count log }) k) (report_of log e s k)

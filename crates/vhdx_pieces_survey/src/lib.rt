@@ -1,7 +1,7 @@
 // What a found sequence's descriptors and its head say, in pieces: a tour over the entries says which sector of the log it wants, is
 // handed in with that sector, and handed back moved. Only sectors with descriptors are read, each once.
 ghost use Rattle.std.specs.Prelude.{◌≡◌, ◌+◌, ◌*◌, ◌≤◌, ◌<◌, length};
-ghost use Rattle.vhdx_pieces_survey.specs.Touring.{Sane, Opened, Full, Onward, wantedOf, started, surveyIn, addedBy, movedOn, passed, opened as opened_of, step_of};
+ghost use Rattle.vhdx_pieces_survey.specs.Touring.{Sane, Opened, Full, Onward, wanted_of, started, survey_in, added_by, moved_on, passed, opened as opened_of, step_of};
 
 use extent::Extent;
 use vhdx_entry::ring::RingPos;
@@ -67,7 +67,7 @@ pub fn start(pos: RingPos, more: u64) -> Step
 // The sector of the log that it wants.
 pub fn wanted(t: Tour) -> usize
     requires { Sane t }
-    ensures { (result ≡ wantedOf t) × (result < t.pos.len) }
+    ensures { (result ≡ wanted_of t) × (result < t.pos.len) }
 {
     let pos = t.pos;
     pos.advance(t.read).at
@@ -124,7 +124,7 @@ fn pass(t: Tour, log: Extent, sector: &[u8]) -> Step
 // A survey with the m descriptors from byte `from` of a sector on.
 fn survey_in(found: Survey, log: Extent, s: &[u8], from: usize, m: usize) -> Survey
     requires { (length s.now ≡ 4096) × (from + 32 * m ≤ 4096) }
-    ensures { result ≡ surveyIn log found s.now from m }
+    ensures { result ≡ survey_in log found s.now from m }
 {
     let mut all = found;
     let mut i: usize = 0;
@@ -138,7 +138,7 @@ fn survey_in(found: Survey, log: Extent, s: &[u8], from: usize, m: usize) -> Sur
 // With one descriptor more.
 fn add(found: Survey, log: Extent, d: &[u8]) -> Survey
     requires { length d.now ≡ 32 }
-    ensures { result ≡ addedBy log found d.now }
+    ensures { result ≡ added_by log found d.now }
 {
     found.add(
         Run {
@@ -154,7 +154,7 @@ fn add(found: Survey, log: Extent, d: &[u8]) -> Survey
 // Past m descriptors, with the survey that they made: the next sector of the entry, the next entry, or the end.
 fn moved(t: Tour, m: usize, found: Survey) -> Step
     requires { Opened t × Full t m }
-    ensures { result ≡ movedOn t m found }
+    ensures { result ≡ moved_on t m found }
 {
     let pos = t.pos;
     if t.seen + m < t.count {

@@ -1,7 +1,7 @@
 // The walk over a found sequence's sectors in pieces, in the order in which they are written: a walker wants a sector of the log, or has
 // a sector to write. It is handed in with the sector that it wanted, or after the write, and handed back moved.
 ghost use Rattle.std.specs.Prelude.{◌≡◌, ◌+◌, ◌*◌, ◌≤◌, ◌<◌, length};
-ghost use Rattle.vhdx_pieces_walk.specs.Walking.{Opened, SaneReading, SaneWriting, Onward, wantedOf, started, staged, resumed, idleFrom, pastBy, allowed, beyondBy, met, looked, opened as opened_of, step_of, wroteOf};
+ghost use Rattle.vhdx_pieces_walk.specs.Walking.{Opened, SaneReading, SaneWriting, Onward, wanted_of, started, staged, resumed, idle_from, past_by, allowed, beyond_by, met, looked, opened as opened_of, step_of, wrote_of};
 
 use extent::Extent;
 use vhdx_entry::ring::RingPos;
@@ -83,7 +83,7 @@ pub fn start(pos: RingPos, left: u64) -> Step
 // The sector of the log that it wants.
 pub fn wanted(w: Walker) -> usize
     requires { (b : Bounds) × SaneReading b w }
-    ensures { (result ≡ wantedOf w) × (result < w.pos.len) }
+    ensures { (result ≡ wanted_of w) × (result < w.pos.len) }
 {
     let stage = w.stage;
     let pos = w.pos;
@@ -121,7 +121,7 @@ pub fn next(w: Walker, b: Bounds, sector: &[u8]) -> Step
 // The sector was written.
 pub fn wrote(w: Walker) -> Step
     requires { (b : Bounds) × SaneWriting b w × (b.limit < 18446744073709551616) }
-    ensures { (result ≡ wroteOf w) × ((b : Bounds) → SaneWriting b w → Onward b w.pos.len result) }
+    ensures { (result ≡ wrote_of w) × ((b : Bounds) → SaneWriting b w → Onward b w.pos.len result) }
 {
     let stage = w.stage;
     match stage {
@@ -195,7 +195,7 @@ fn look(w: Walker, b: Bounds, sector: &[u8]) -> Step
 // How many of the m descriptors from byte `from` of a sector on name no bytes, up to the first that does.
 fn idle(s: &[u8], from: usize, m: usize) -> usize
     requires { (length s.now ≡ 4096) × (from + 32 * m ≤ 4096) }
-    ensures { (result ≡ idleFrom s.now from 0 m) × (result ≤ m) }
+    ensures { (result ≡ idle_from s.now from 0 m) × (result ≤ m) }
 {
     let mut i: usize = 0;
     while i < m {
@@ -210,7 +210,7 @@ fn idle(s: &[u8], from: usize, m: usize) -> usize
 // Past i descriptors that name no bytes.
 fn past(w: Walker, i: usize) -> Walker
     requires { w.index + i < 4294967296 }
-    ensures { result ≡ pastBy w i }
+    ensures { result ≡ past_by w i }
 {
     let pos = w.pos;
     let stage = w.stage;
@@ -270,7 +270,7 @@ fn meet(w: Walker, b: Bounds, d: &[u8]) -> Step
 // Behind the next descriptor.
 fn beyond(w: Walker, data: usize, stage: Stage) -> Walker
     requires { w.index < 4294967296 }
-    ensures { result ≡ beyondBy w «data» stage }
+    ensures { result ≡ beyond_by w «data» stage }
 {
     let pos = w.pos;
     Walker {

@@ -1,6 +1,6 @@
 // The identifiers of the regions that MS-VHDX defines, as they are stored: the first three groups reversed.
 ghost use Rattle.std.specs.Prelude.{◌≡◌};
-ghost use Rattle.vhdx_region.specs.Region.{knownRegions};
+ghost use Rattle.vhdx_region.specs.Region.{known_regions};
 
 // Rows of the table.
 pub const BAT: usize = 0;
@@ -15,7 +15,7 @@ const REGIONS: [[u8; 16]; 2] = [
 ];
 
 pub fn regions() -> [[u8; 16]; 2]
-    ensures { result ≡ knownRegions }
+    ensures { result ≡ known_regions }
 {
     REGIONS
 }

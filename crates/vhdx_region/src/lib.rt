@@ -6,8 +6,8 @@ pub mod location;
 mod table;
 
 ghost use Rattle.std.specs.Prelude.{true, ◌≡◌, ◌+◌, ◌≤◌, length as length_of};
-ghost use Rattle.extent.specs.Extent.{MiB};
-ghost use Rattle.vhdx_region.specs.Region.{table_at, validTable, readTable, regions, outcome};
+ghost use Rattle.extent.specs.Extent.{mib};
+ghost use Rattle.vhdx_region.specs.Region.{table_at, valid_table, read_table, regions, outcome};
 
 use decision::Index;
 use extent::Extent;
@@ -32,7 +32,7 @@ const COPY2: usize = 262144;
 
 // Of an image whose log is here.
 pub fn read(image: &[u8], log: Extent) -> Answer
-    requires { MiB ≤ length_of image.now }
+    requires { mib ≤ length_of image.now }
     ensures { outcome result ≡ regions image.now log }
 {
     let length = image.len() as u64;
@@ -59,8 +59,8 @@ fn table_at(image: &[u8], at: usize) -> &[u8]
 
 // Of a valid copy of the table, in an image of this length.
 fn read_table(t: &[u8], length: u64, log: Extent) -> Answer
-    requires { (length_of t.now ≡ 65536) × (validTable t.now ≡ true) }
-    ensures { outcome result ≡ readTable length log t.now }
+    requires { (length_of t.now ≡ 65536) × (valid_table t.now ≡ true) }
+    ensures { outcome result ≡ read_table length log t.now }
 {
     if !table::keeps_rules(t, length, log) {
         return Answer::Refused(10);

@@ -1,12 +1,12 @@
 // Where a region may lie.
 ghost use Rattle.std.specs.Prelude.{◌≡◌};
-ghost use Rattle.vhdx_region.specs.Region.{locationRule};
+ghost use Rattle.vhdx_region.specs.Region.{location_rule};
 
 use extent::Extent;
 
 // In an image of this length.
 pub fn keeps_rule(region: Extent, length: u64) -> bool
-    ensures { result ≡ locationRule length region }
+    ensures { result ≡ location_rule length region }
 {
     (extent::is_whole_mib(region.offset) & (extent::MIB <= region.offset))
         & (extent::is_whole_mib(region.length)

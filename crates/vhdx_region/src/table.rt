@@ -1,7 +1,7 @@
 // One copy of the region table, given as its 65,536 bytes.
 ghost use Rattle.std.specs.Prelude.{true, ◌≡◌, ◌≤◌, ◌<◌, length as length_of};
 ghost use Rattle.decision.specs.Bounded.{every, found};
-ghost use Rattle.vhdx_region.specs.Region.{knownRegions, entryCount, validTable, entry as entry_at, pairRule, entryRule, entriesRule, entry_of};
+ghost use Rattle.vhdx_region.specs.Region.{known_regions, entry_count, valid_table, entry as entry_at, pair_rule, entry_rule, entries_rule, entry_of};
 
 use crate::{entry, known};
 use decision::Index;
@@ -15,7 +15,7 @@ const COUNT_LIMIT: u32 = 2047;
 
 pub fn is_valid(t: &[u8]) -> bool
     requires { length_of t.now ≡ 65536 }
-    ensures { result ≡ validTable t.now }
+    ensures { result ≡ valid_table t.now }
 {
     field::bytes_are(t, 0, b"regi")
         & ((field::u32_at(t, CHECKSUM) == crc32c::checksum_zeroed(t, CHECKSUM))
@@ -24,8 +24,8 @@ pub fn is_valid(t: &[u8]) -> bool
 
 // How many entries a valid table has.
 fn count(t: &[u8]) -> usize
-    requires { (length_of t.now ≡ 65536) × (validTable t.now ≡ true) }
-    ensures { (result ≡ entryCount t.now) × (result ≤ 2047) }
+    requires { (length_of t.now ≡ 65536) × (valid_table t.now ≡ true) }
+    ensures { (result ≡ entry_count t.now) × (result ≤ 2047) }
 {
     field::u32_at(t, COUNT) as usize
 }
@@ -43,7 +43,7 @@ pub fn entry(t: &[u8], i: usize) -> &[u8]
 // Entry i is apart from every earlier one.
 fn stands_apart(t: &[u8], i: usize) -> bool
     requires { (length_of t.now ≡ 65536) × (i < 2047) }
-    ensures { result ≡ every i (λ j. pairRule (entry_at t.now j) (entry_at t.now i)) }
+    ensures { result ≡ every i (λ j. pair_rule (entry_at t.now j) (entry_at t.now i)) }
 {
     let e = entry(t, i);
     let mut j: usize = 0;
@@ -57,8 +57,8 @@ fn stands_apart(t: &[u8], i: usize) -> bool
 }
 
 fn entry_keeps_rule(t: &[u8], i: usize, known: &[[u8; 16]], length: u64, log: Extent) -> bool
-    requires { (length_of t.now ≡ 65536) × (i < 2047) × (known.now ≡ knownRegions) }
-    ensures { result ≡ entryRule length log t.now i }
+    requires { (length_of t.now ≡ 65536) × (i < 2047) × (known.now ≡ known_regions) }
+    ensures { result ≡ entry_rule length log t.now i }
 {
     if entry::keeps_rule(entry(t, i), known, length, log) {
         stands_apart(t, i)
@@ -69,8 +69,8 @@ fn entry_keeps_rule(t: &[u8], i: usize, known: &[[u8; 16]], length: u64, log: Ex
 
 // Every entry keeps its rule.
 pub fn keeps_rules(t: &[u8], length: u64, log: Extent) -> bool
-    requires { (length_of t.now ≡ 65536) × (validTable t.now ≡ true) }
-    ensures { result ≡ entriesRule length log t.now }
+    requires { (length_of t.now ≡ 65536) × (valid_table t.now ≡ true) }
+    ensures { result ≡ entries_rule length log t.now }
 {
     let known = known::regions();
     let count = count(t);
@@ -86,7 +86,7 @@ pub fn keeps_rules(t: &[u8], length: u64, log: Extent) -> bool
 
 // The entry of a known region, by its row.
 pub fn find(t: &[u8], row: usize) -> Index
-    requires { (length_of t.now ≡ 65536) × (validTable t.now ≡ true) × (row < 2) }
+    requires { (length_of t.now ≡ 65536) × (valid_table t.now ≡ true) × (row < 2) }
     ensures { found result ≡ entry_of t.now row }
 {
     let known = known::regions();

@@ -10,27 +10,27 @@ use native.Mathlib.Omega.{arith}
 use lib.ListN.{length, take, drop, get_or, length-map}
 use lib.Seq.{take_all}
 use Rattle.extent.specs.declared.Extent.{Extent}
-use Rattle.extent.specs.Extent.{MiB, shares, part}
+use Rattle.extent.specs.Extent.{mib, shares, part}
 use Rattle.vhdx_header.specs.declared.Header.{Header}
 use Rattle.vhdx_header.specs.declared.Answer.TheVariants.{Current}
-use Rattle.vhdx_header.specs.Current.{currentHeader}
+use Rattle.vhdx_header.specs.Current.{current_header}
 use Rattle.vhdx_header.proofs.Laws.{accepted}
-use Rattle.vhdx_entry.specs.Ring.{sectorSize}
+use Rattle.vhdx_entry.specs.Ring.{log_sector_size}
 use Rattle.vhdx_walk.specs.declared.Walk.{Walk}
 use Rattle.vhdx_walk.specs.Entries.{Sector, sectors}
-use Rattle.vhdx_walk.specs.Cursor.{descriptorsLeft}
-use Rattle.vhdx_walk.specs.Walk.{sectorsLeft, walkFrom, Ready, Settled}
+use Rattle.vhdx_walk.specs.Cursor.{descriptors_left}
+use Rattle.vhdx_walk.specs.Walk.{sectors_left, walk_from, Ready, Settled}
 use Rattle.vhdx_walk.proofs.Sectors.{left-from}
 use Rattle.vhdx_log.specs.declared.Work.{Work}
-use Rattle.vhdx_log.specs.Work.{lies, someLies, Plan, apply, count}
-use Rattle.vhdx_log.specs.Plan.{logBytes, extentOf, plan}
-use Rattle.vhdx_log.specs.Answers.{logOf}
+use Rattle.vhdx_log.specs.Work.{lies, some_lies, Plan, apply, count}
+use Rattle.vhdx_log.specs.Plan.{log_bytes, extent_of, plan}
+use Rattle.vhdx_log.specs.Answers.{log_of}
 use Rattle.vhdx_log.proofs.Answering.{log_is}
 use Rattle.vhdx_steps.specs.Buffer.{zeroed}
 use Rattle.vhdx_steps.specs.Steps.{File, Step, write, run, runs, steps}
 use Rattle.vhdx_steps.specs.Calls.{file}
-use Rattle.vhdx_replay.specs.Writes.{allWritten, Safe, Writable}
-use Rattle.vhdx_replay.specs.Planned.{extentBy, logExtent, Planned}
+use Rattle.vhdx_replay.specs.Writes.{all_written, Safe, Writable}
+use Rattle.vhdx_replay.specs.Planned.{extent_by, log_extent, Planned}
 use Rattle.vhdx_steps.proofs.Bytes.{zeroed-length, zeroed-low}
 use Rattle.vhdx_steps.proofs.Restart.{EndBy}
 use Rattle.vhdx_steps.proofs.Sectors.{Whole, neither}
@@ -38,7 +38,7 @@ use Rattle.vhdx_steps.proofs.Reading.{Applied, applied, header_of, same-part}
 
 -- ---- sectors
 
-written-runs : (ss : List Sector) (f : File) → allWritten ss f.buffer ≡ (runs (map write ss) f).buffer
+written-runs : (ss : List Sector) (f : File) → all_written ss f.buffer ≡ (runs (map write ss) f).buffer
 written-runs [] f = refl
 written-runs (s ∷ ss) f = written-runs ss (run (write s) f)
 
@@ -47,40 +47,40 @@ map-take zero ss = refl
 map-take (suc k) [] = refl
 map-take (suc k) (s ∷ ss) = ap (λ (v : List Step). write s ∷ v) (map-take k ss)
 
-all-safe : (log : Extent) (m capacity : ℕ) (ss : List Sector) → m ≤ capacity → Whole ss → EndBy m ss → someLies log ss ≡ false → Safe log capacity ss
+all-safe : (log : Extent) (m capacity : ℕ) (ss : List Sector) → m ≤ capacity → Whole ss → EndBy m ss → some_lies log ss ≡ false → Safe log capacity ss
 all-safe log m capacity [] h w e c = tt
 all-safe log m capacity (s ∷ ss) h w e c =
-    let p = neither (lies log s.offset sectorSize) (someLies log ss) c in
-    let q = neither (shares s.offset sectorSize 0 MiB) (shares s.offset sectorSize log.offset log.length) p.0 in
+    let p = neither (lies log s.offset log_sector_size) (some_lies log ss) c in
+    let q = neither (shares s.offset log_sector_size 0 mib) (shares s.offset log_sector_size log.offset log.length) p.0 in
     ((w.0, omega (arith, w.0, e.0), q.1), all-safe log m capacity ss h w.1 e.1 p.1)
 
 -- ---- the log that a header names
 
-module _ (b : List ℕ) (n : ℕ) {h : Header} (k : currentHeader b n ≡ Current h) where
-  pub extent-is : logExtent b n ≡ extentOf h
-  unfolding logExtent
-  extent-is = ap extentBy k
+module _ (b : List ℕ) (n : ℕ) {h : Header} (k : current_header b n ≡ Current h) where
+  pub extent-is : log_extent b n ≡ extent_of h
+  unfolding log_extent
+  extent-is = ap extent_by k
 
-  log-part : logOf b n ≡ part b (extentOf h)
-  unfolding logBytes part
+  log-part : log_of b n ≡ part b (extent_of h)
+  unfolding log_bytes part
   log-part = sym (log_is b n k)
 
 -- the sectors of planned work
 abbrev pub planned : List ℕ → Extent → Work → List Sector
-planned b log w = sectors (descriptorsLeft (part b log) w.cursor)
+planned b log w = sectors (descriptors_left (part b log) w.cursor)
 
 module _ (b : List ℕ) (n : ℕ) (log : Extent) (w : Work) (p : Planned b n log w) where
-  pub header : (h : Header) × (currentHeader b n ≡ Current h)
+  pub header : (h : Header) × (current_header b n ≡ Current h)
   header = header_of b n (sym p.same)
 
-  pub here : log ≡ extentOf header.0
+  pub here : log ≡ extent_of header.0
   here = p.here ∙ extent-is b n header.1
 
-  same_log : logOf b n ≡ part b log
+  same_log : log_of b n ≡ part b log
   same_log = log-part b n header.1 ∙ sym (ap (part b) here)
 
   pub plan-is : plan b n ≡ apply w.length (planned b log w)
-  plan-is = sym p.same ∙ ap (λ (l : List ℕ). apply w.length (sectors (descriptorsLeft l w.cursor))) same_log
+  plan-is = sym p.same ∙ ap (λ (l : List ℕ). apply w.length (sectors (descriptors_left l w.cursor))) same_log
 
   -- growth and as many sectors as are counted are all steps
   pub all-steps : take (w.count + 1) (steps (plan b n)) ≡ steps (plan b n)
@@ -102,8 +102,8 @@ module _ (b : List ℕ) (n : ℕ) (log : Extent) (w : Work) (p : Planned b n log
   pub inside : log.offset + log.length ≤ length b
   inside = omega (arith, within, length-fits)
 
-  pub ready-here : Ready (part b log) (walkFrom w.cursor)
-  ready-here = subst (λ (l : List ℕ). Ready l (walkFrom w.cursor)) same_log p.ready
+  pub ready-here : Ready (part b log) (walk_from w.cursor)
+  ready-here = subst (λ (l : List ℕ). Ready l (walk_from w.cursor)) same_log p.ready
 
   -- g is the grown buffer, l its log as the code takes it
   module _ (g : List ℕ) (q : g ≡ zeroed b n w.length) where
@@ -119,15 +119,15 @@ module _ (b : List ℕ) (n : ℕ) (log : Extent) (w : Work) (p : Planned b n log
         same-part log.offset log.length b g grown-inside inside
         (λ i from to. ap (λ (x : List ℕ). get_or x i 0) q ∙ zeroed-low b n w.length known.grows known.fits i (omega (arith, within)))
 
-    module _ (l : List ℕ) (s : l ≡ part g log) (v : Walk) (from : v ≡ walkFrom w.cursor) where
+    module _ (l : List ℕ) (s : l ≡ part g log) (v : Walk) (from : v ≡ walk_from w.cursor) where
       pub start-ready : Ready l v
       start-ready = subst (λ (x : List ℕ). Ready x v) (sym (s ∙ grown-log)) (subst (Ready (part b log)) (sym from) ready-here)
 
-      module _ (start : Walk) (ready : Ready l start) (e : (sectorsLeft l start ≡ drop 0 (sectorsLeft l v)) × Settled l start) where
-        all_left : sectorsLeft (part g log) start ≡ planned b log w
+      module _ (start : Walk) (ready : Ready l start) (e : (sectors_left l start ≡ drop 0 (sectors_left l v)) × Settled l start) where
+        all_left : sectors_left (part g log) start ≡ planned b log w
         all_left =
-            ap (λ (x : List ℕ). sectorsLeft x start) (sym s) ∙ e.0
-            ∙ ap (λ (x : List ℕ). sectorsLeft x v) (s ∙ grown-log) ∙ ap (sectorsLeft (part b log)) from ∙ left-from (part b log) w.cursor
+            ap (λ (x : List ℕ). sectors_left x start) (sym s) ∙ e.0
+            ∙ ap (λ (x : List ℕ). sectors_left x v) (s ∙ grown-log) ∙ ap (sectors_left (part b log)) from ∙ left-from (part b log) w.cursor
 
         pub writable : Writable g log start
         writable =
@@ -139,9 +139,9 @@ module _ (b : List ℕ) (n : ℕ) (log : Extent) (w : Work) (p : Planned b n log
               safe = subst (Safe log (length g)) (sym all_left) (all-safe log w.length (length g) (planned b log w) (omega (arith, k.fits, grown-long)) k.whole k.ends k.clear);
             }
 
-        pub replayed : (k : ℕ) → allWritten (take k (sectorsLeft (part g log) start)) g ≡ (runs (take (k + 1) (steps (plan b n))) (file b n)).buffer
+        pub replayed : (k : ℕ) → all_written (take k (sectors_left (part g log) start)) g ≡ (runs (take (k + 1) (steps (plan b n))) (file b n)).buffer
         replayed k =
-            ap (λ (ss : List Sector). allWritten (take k ss) g) all_left ∙ ap (allWritten (take k (planned b log w))) q
+            ap (λ (ss : List Sector). all_written (take k ss) g) all_left ∙ ap (all_written (take k (planned b log w))) q
             ∙ written-runs (take k (planned b log w)) (record { buffer = zeroed b n w.length; size = w.length })
             ∙ ap (λ (v : List Step). (runs v (record { buffer = zeroed b n w.length; size = w.length })).buffer) (map-take k (planned b log w))
             ∙ ap (λ (j : ℕ). (runs (take j (steps (apply w.length (planned b log w)))) (file b n)).buffer) (sym (add-one k))

@@ -10,7 +10,7 @@ use native.Mathlib.Omega.{arith}
 use lib.Dec.{leb}
 use lib.ListN.{length, get_elem?}
 use borrow.Author.Tests.{leb-true}
-use Rattle.decision.specs.Refusal.{Outcome, refused, answered, check, refusalOf}
+use Rattle.decision.specs.Refusal.{Outcome, refused, answered, check, refusal_of}
 use Rattle.extent.specs.declared.Extent.{Extent}
 use Rattle.extent.specs.Extent.{part}
 use Rattle.vhdx_walk.specs.declared.Walk.{Walk}
@@ -19,7 +19,7 @@ use Rattle.vhdx_walk.specs.declared.Next.{Next}
 use Rattle.vhdx_walk.specs.declared.Next.TheVariants.{Sector as Here, End}
 use Rattle.vhdx_walk.specs.Entries.{Sector}
 use Rattle.vhdx_walk.specs.Cursor.{bytes_of, Held}
-use Rattle.vhdx_walk.specs.Walk.{sectorsLeft, walkFrom, sectorOf, next_of, HeldNext, Ready}
+use Rattle.vhdx_walk.specs.Walk.{sectors_left, walk_from, sector_of, next_of, HeldNext, Ready}
 use Rattle.vhdx_walk.proofs.Sectors.{left-from}
 use Rattle.vhdx_log.specs.declared.Work.{Work}
 use Rattle.vhdx_log.specs.Work.{Plan, apply}
@@ -52,43 +52,43 @@ module _ (b : List ℕ) (n : ℕ) (log : Extent) (w : Work) (p : Planned b n log
       ap (λ (x : Plan). chosen x (i + 1) n) (plan-is b n log w p) ∙ ap (λ (k : ℕ). chosen (apply w.length (planned b log w)) k n) (add-one i)
       ∙ ap (admitted n) e
 
-  says : (o : Outcome Step) → chosen (plan b n) (i + 1) n ≡ o → (refusalOf o ≡ refusalOf (chosen (plan b n) (i + 1) n)) × ((runs (steps_of o) (file b n)).buffer ≡ (runs (single (plan b n) (i + 1) n) (file b n)).buffer)
-  says o e = (sym (ap refusalOf e), sym (ap (λ (x : Outcome Step). (runs (steps_of x) (file b n)).buffer) e))
+  says : (o : Outcome Step) → chosen (plan b n) (i + 1) n ≡ o → (refusal_of o ≡ refusal_of (chosen (plan b n) (i + 1) n)) × ((runs (steps_of o) (file b n)).buffer ≡ (runs (single (plan b n) (i + 1) n) (file b n)).buffer)
+  says o e = (sym (ap refusal_of e), sym (ap (λ (x : Outcome Step). (runs (steps_of x) (file b n)).buffer) e))
 
   -- l is the log as the code takes it
-  module _ (l : List ℕ) (same : l ≡ part b log) (v : Walk) (from : v ≡ walkFrom w.cursor) where
+  module _ (l : List ℕ) (same : l ≡ part b log) (v : Walk) (from : v ≡ walk_from w.cursor) where
     pub nth-ready : Ready l v
     nth-ready = subst (λ (x : List ℕ). Ready x v) (sym same) (subst (Ready (part b log)) (sym from) (ready-here b n log w p))
 
-    module _ (r : Next) (e : next_of l r ≡ get_elem? (sectorsLeft l v) i) where
+    module _ (r : Next) (e : next_of l r ≡ get_elem? (sectors_left l v) i) where
       found : next_of (part b log) r ≡ get_elem? (planned b log w) i
       found =
           ap (λ (x : List ℕ). next_of x r) (sym same) ∙ e
-          ∙ ap (λ (x : List ℕ). get_elem? (sectorsLeft x v) i) same ∙ ap (λ (x : Walk). get_elem? (sectorsLeft (part b log) x) i) from
+          ∙ ap (λ (x : List ℕ). get_elem? (sectors_left x v) i) same ∙ ap (λ (x : Walk). get_elem? (sectors_left (part b log) x) i) from
           ∙ ap (λ (ss : List Sector). get_elem? ss i) (left-from (part b log) w.cursor)
 
-      pub no-sector : r ≡ End → (21 ≡ refusalOf (chosen (plan b n) (i + 1) n)) × (b ≡ (runs (single (plan b n) (i + 1) n) (file b n)).buffer)
+      pub no-sector : r ≡ End → (21 ≡ refusal_of (chosen (plan b n) (i + 1) n)) × (b ≡ (runs (single (plan b n) (i + 1) n) (file b n)).buffer)
       no-sector told = says (refused 21) (by none (nth-none (planned b log w) i (ap (next_of (part b log)) (sym told) ∙ found)))
 
       module _ (s : SectorWrite) (told : r ≡ Here s) where
-        here : some (sectorOf (part b log) s) ≡ get_elem? (planned b log w) i
+        here : some (sector_of (part b log) s) ≡ get_elem? (planned b log w) i
         here = ap (next_of (part b log)) (sym told) ∙ found
 
         whole : length (bytes_of (part b log) s.source) ≡ 4096
-        whole = nth-whole (planned b log w) i (sectorOf (part b log) s) (known b n log w p).whole here
+        whole = nth-whole (planned b log w) i (sector_of (part b log) s) (known b n log w p).whole here
 
-        tested : (t : Bool) → t ≡ leb (s.offset + 4096) n → chosen (plan b n) (i + 1) n ≡ check t (refused 22) (answered (write (sectorOf (part b log) s)))
+        tested : (t : Bool) → t ≡ leb (s.offset + 4096) n → chosen (plan b n) (i + 1) n ≡ check t (refused 22) (answered (write (sector_of (part b log) s)))
         tested t h =
-            by (some (write (sectorOf (part b log) s))) (nth-some (planned b log w) i (sectorOf (part b log) s) here)
-            ∙ ap (λ (x : Bool). check x (refused 22) (answered (write (sectorOf (part b log) s))))
+            by (some (write (sector_of (part b log) s))) (nth-some (planned b log w) i (sector_of (part b log) s) here)
+            ∙ ap (λ (x : Bool). check x (refused 22) (answered (write (sector_of (part b log) s))))
             (ap (λ (k : ℕ). leb (s.offset + k) n) whole ∙ sym h)
 
-        pub past_the_end : false ≡ leb (s.offset + 4096) n → (22 ≡ refusalOf (chosen (plan b n) (i + 1) n)) × (b ≡ (runs (single (plan b n) (i + 1) n) (file b n)).buffer)
+        pub past_the_end : false ≡ leb (s.offset + 4096) n → (22 ≡ refusal_of (chosen (plan b n) (i + 1) n)) × (b ≡ (runs (single (plan b n) (i + 1) n) (file b n)).buffer)
         past_the_end h = says (refused 22) (tested false h)
 
         pub written : true ≡ leb (s.offset + 4096) n → (after : List ℕ) → after ≡ put b s.offset (bytes_of (part b log) s.source)
-            → (0 ≡ refusalOf (chosen (plan b n) (i + 1) n)) × (after ≡ (runs (single (plan b n) (i + 1) n) (file b n)).buffer)
-        written h after q = let o = says (answered (write (sectorOf (part b log) s))) (tested true h) in (o.0, q ∙ o.1)
+            → (0 ≡ refusal_of (chosen (plan b n) (i + 1) n)) × (after ≡ (runs (single (plan b n) (i + 1) n) (file b n)).buffer)
+        written h after q = let o = says (answered (write (sector_of (part b log) s))) (tested true h) in (o.0, q ∙ o.1)
 
         pub fits : true ≡ leb (s.offset + 4096) n → s.offset + 4096 ≤ length b
         fits h = omega (arith, leb-true (s.offset + 4096) n (sym h), length-fits b n log w p)

@@ -11,8 +11,8 @@ use lib.Dec.{leb}
 use lib.ListN.{length, take, get_or, get_elem?}
 use Rattle.decision.specs.Refusal.{refused as declined, answered, check}
 use Rattle.extent.specs.declared.Extent.{Extent}
-use Rattle.extent.specs.Extent.{MiB}
-use Rattle.vhdx_header.specs.Current.{firstMiB}
+use Rattle.extent.specs.Extent.{mib}
+use Rattle.vhdx_header.specs.Current.{first_mib}
 use Rattle.vhdx_header.proofs.Laws.{accepted}
 use Rattle.vhdx_walk.specs.Entries.{Sector}
 use Rattle.vhdx_log.specs.declared.Answer.{Answer}
@@ -20,11 +20,11 @@ use Rattle.vhdx_log.specs.declared.Answer.TheVariants.{Refused, Apply}
 use Rattle.vhdx_log.specs.declared.Work.{Work}
 use Rattle.vhdx_log.specs.Work.{Plan, refused, apply, count}
 use Rattle.vhdx_log.specs.Plan.{plan}
-use Rattle.vhdx_log.specs.Answers.{logOf, planIn, count_of, ReadyIn, plan_of}
+use Rattle.vhdx_log.specs.Answers.{log_of, plan_in, count_of, ReadyIn, plan_of}
 use Rattle.vhdx_steps.specs.Buffer.{put, zeroed}
 use Rattle.vhdx_steps.specs.Steps.{File, Step, write, end, runs, steps, admitted, steps_of}
 use Rattle.vhdx_steps.specs.Calls.{file}
-use Rattle.vhdx_replay.specs.Planned.{logExtent, Planned}
+use Rattle.vhdx_replay.specs.Planned.{log_extent, Planned}
 use Rattle.vhdx_replay.proofs.Applying.{planned, header, plan-is, known, all-steps}
 use Rattle.vhdx_steps.proofs.Reading.{same_first, reads}
 use Rattle.vhdx_steps.specs.Failures.{Lost}
@@ -32,17 +32,17 @@ use Rattle.vhdx_steps.proofs.Restart.{ran, whole, good, untouched}
 
 -- ---- what the plan's answer says
 
-module _ (b : List ℕ) (n : ℕ) (r : Answer) (promised : (plan_of b n r ≡ plan b n) × ((count_of r ≡ count (plan b n)) × ReadyIn (logOf b n) r)) where
+module _ (b : List ℕ) (n : ℕ) (r : Answer) (promised : (plan_of b n r ≡ plan b n) × ((count_of r ≡ count (plan b n)) × ReadyIn (log_of b n) r)) where
   pub plan-refused : {c : ℕ} → r ≡ Refused c → refused c ≡ plan b n
-  plan-refused e = sym (ap (planIn (logOf b n)) e) ∙ promised.0
+  plan-refused e = sym (ap (plan_in (log_of b n)) e) ∙ promised.0
 
-  pub work-planned : {w : Work} → r ≡ Apply w → {log : Extent} → log ≡ logExtent b n → Planned b n log w
+  pub work-planned : {w : Work} → r ≡ Apply w → {log : Extent} → log ≡ log_extent b n → Planned b n log w
   work-planned e here =
       record {
         here = here;
-        same = sym (ap (planIn (logOf b n)) e) ∙ promised.0;
+        same = sym (ap (plan_in (log_of b n)) e) ∙ promised.0;
         counted = sym (ap count_of e) ∙ promised.1.0;
-        ready = subst (ReadyIn (logOf b n)) e promised.1.1;
+        ready = subst (ReadyIn (log_of b n)) e promised.1.1;
       }
 
 -- ---- lengths
@@ -74,8 +74,8 @@ module _ (b : List ℕ) (n : ℕ) (log : Extent) (w : Work) (p : Planned b n log
       let R = reads (file b n) (header b n log w p).0 (header b n log w p).1 (plan-is b n log w p) in
       ran w.length (planned b log w) (good R) R.grows R.fits (whole (steps (apply w.length (planned b log w))) (file b n))
 
-  pub holds-first : MiB ≤ w.length
-  holds-first = omega (arith, (accepted b n (header b n log w p).1).holds-first, (known b n log w p).grows)
+  pub holds_first : mib ≤ w.length
+  holds_first = omega (arith, (accepted b n (header b n log w p).1).holds_first, (known b n log w p).grows)
 
   -- g is the buffer as the code leaves it
   module _ (g : List ℕ) (did : g ≡ (runs (take (w.count + 1) (steps (plan b n))) (file b n)).buffer) where
@@ -91,8 +91,8 @@ module _ (b : List ℕ) (n : ℕ) (log : Extent) (w : Work) (p : Planned b n log
     pub fits : w.length ≤ length g
     fits = omega (arith, (known b n log w p).fits, long)
 
-    pub same_start : firstMiB g ≡ firstMiB b
+    pub same_start : first_mib g ≡ first_mib b
     same_start =
         let R = reads (file b n) (header b n log w p).0 (header b n log w p).1 (plan-is b n log w p) in
-        same_first b g (omega (arith, holds-first, fits)) (omega (arith, holds-first, (known b n log w p).fits))
+        same_first b g (omega (arith, holds_first, fits)) (omega (arith, holds_first, (known b n log w p).fits))
         (λ i l. ap (λ (x : List ℕ). get_or x i 0) same-buffer ∙ untouched R kept.1 i (inl l))

@@ -5,26 +5,26 @@ use Rattle.extent.specs.declared.Extent.{Extent}
 use Rattle.extent.specs.Extent.{nowhere}
 use Rattle.vhdx_header.specs.declared.Answer.{Answer as HeaderAnswer}
 use Rattle.vhdx_header.specs.declared.Answer.TheVariants.{Refused as HeaderRefused, Current}
-use Rattle.vhdx_header.specs.Current.{currentHeader}
-use Rattle.vhdx_walk.specs.Walk.{walkFrom, Ready}
+use Rattle.vhdx_header.specs.Current.{current_header}
+use Rattle.vhdx_walk.specs.Walk.{walk_from, Ready}
 use Rattle.vhdx_log.specs.declared.Answer.TheVariants.{Apply}
 use Rattle.vhdx_log.specs.declared.Work.{Work}
 use Rattle.vhdx_log.specs.Work.{count}
-use Rattle.vhdx_log.specs.Plan.{extentOf, plan}
-use Rattle.vhdx_log.specs.Answers.{logOf, plan_of}
+use Rattle.vhdx_log.specs.Plan.{extent_of, plan}
+use Rattle.vhdx_log.specs.Answers.{log_of, plan_of}
 
 -- where a header says that the log is; nowhere without one
-abbrev pub extentBy : HeaderAnswer → Extent
-extentBy (HeaderRefused c) = nowhere
-extentBy (Current h) = extentOf h
+abbrev pub extent_by : HeaderAnswer → Extent
+extent_by (HeaderRefused c) = nowhere
+extent_by (Current h) = extent_of h
 
 -- the log of the image that is a buffer's first n bytes: the current header's
-unfoldable pub logExtent : List ℕ → ℕ → Extent
-logExtent buffer n = extentBy (currentHeader buffer n)
+unfoldable pub log_extent : List ℕ → ℕ → Extent
+log_extent buffer n = extent_by (current_header buffer n)
 
 -- the work is what is planned for that image, whose log is here
 pub record Planned (buffer : List ℕ) (n : ℕ) (log : Extent) (w : Work) : Type 0 where
-  pub here : log ≡ logExtent buffer n
+  pub here : log ≡ log_extent buffer n
   pub same : plan_of buffer n (Apply w) ≡ plan buffer n
   pub counted : w.count ≡ count (plan buffer n)
-  pub ready : Ready (logOf buffer n) (walkFrom w.cursor)
+  pub ready : Ready (log_of buffer n) (walk_from w.cursor)

@@ -4,23 +4,23 @@ use Rattle.std.specs.Prelude.{List, [], ◌∷◌, false, ◌≡◌, ℕ, ◌+�
 use Rattle.extent.specs.declared.Extent.{Extent}
 use Rattle.extent.specs.Extent.{shares, part}
 use Rattle.vhdx_walk.specs.Entries.{Sector}
-use Rattle.vhdx_walk.specs.Walk.{sectorsLeft, Ready, Settled}
+use Rattle.vhdx_walk.specs.Walk.{sectors_left, Ready, Settled}
 use Rattle.vhdx_walk.specs.declared.Walk.{Walk}
 use Rattle.vhdx_steps.specs.Buffer.{put}
 
 -- the first of some sectors, if there is one: it ends inside the buffer; and the buffer with it written
-abbrev pub firstFits : List Sector → ℕ → Type 0
-firstFits [] capacity = Unit {0}
-firstFits (s ∷ ss) capacity = s.offset + 4096 ≤ capacity
+abbrev pub first_fits_in : List Sector → ℕ → Type 0
+first_fits_in [] capacity = Unit {0}
+first_fits_in (s ∷ ss) capacity = s.offset + 4096 ≤ capacity
 
-abbrev pub firstWritten : List Sector → List ℕ → List ℕ
-firstWritten [] buffer = buffer
-firstWritten (s ∷ ss) buffer = put buffer s.offset s.bytes
+abbrev pub first_written : List Sector → List ℕ → List ℕ
+first_written [] buffer = buffer
+first_written (s ∷ ss) buffer = put buffer s.offset s.bytes
 
 -- all of them, in order
-abbrev pub allWritten : List Sector → List ℕ → List ℕ
-allWritten [] buffer = buffer
-allWritten (s ∷ ss) buffer = allWritten ss (put buffer s.offset s.bytes)
+abbrev pub all_written : List Sector → List ℕ → List ℕ
+all_written [] buffer = buffer
+all_written (s ∷ ss) buffer = all_written ss (put buffer s.offset s.bytes)
 
 -- each has 4,096 bytes, inside the buffer and outside the log
 abbrev pub Safe : Extent → ℕ → List Sector → Type 0
@@ -33,4 +33,4 @@ pub record Writable (buffer : List ℕ) (log : Extent) (walk : Walk) : Type 0 wh
   pub inside : log.offset + log.length ≤ length buffer
   pub ready : Ready (part buffer log) walk
   pub settled : Settled (part buffer log) walk
-  pub safe : Safe log (length buffer) (sectorsLeft (part buffer log) walk)
+  pub safe : Safe log (length buffer) (sectors_left (part buffer log) walk)

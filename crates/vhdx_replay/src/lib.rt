@@ -6,14 +6,14 @@ pub mod store;
 
 ghost use Rattle.std.specs.Prelude.{◌≡◌, ◌+◌, ◌≤◌, length as length_of, take, drop};
 ghost use Rattle.extent.specs.Extent.{part as part_of};
-ghost use Rattle.decision.specs.Refusal.{refusalOf};
-ghost use Rattle.vhdx_walk.specs.Walk.{sectorsLeft, Ready, Settled};
+ghost use Rattle.decision.specs.Refusal.{refusal_of};
+ghost use Rattle.vhdx_walk.specs.Walk.{sectors_left, Ready, Settled};
 ghost use Rattle.vhdx_log.specs.Plan.{plan};
 ghost use Rattle.vhdx_steps.specs.Buffer.{zeroed};
 ghost use Rattle.vhdx_steps.specs.Steps.{steps, runs, chosen, single};
 ghost use Rattle.vhdx_steps.specs.Calls.{file};
-ghost use Rattle.vhdx_replay.specs.Writes.{firstFits, firstWritten, allWritten, Writable};
-ghost use Rattle.vhdx_replay.specs.Planned.{logExtent, Planned};
+ghost use Rattle.vhdx_replay.specs.Writes.{first_fits_in, first_written, all_written, Writable};
+ghost use Rattle.vhdx_replay.specs.Planned.{log_extent, Planned};
 
 use extent::Extent;
 use vhdx_log::Work;
@@ -29,7 +29,7 @@ fn grow(buffer: &mut [u8], from: u64, to: u64)
 
 // Where the log is, of the image that is the buffer's first length bytes; nowhere without a current header.
 pub fn log_extent(buffer: &[u8], length: u64) -> Extent
-    ensures { result ≡ logExtent buffer.now length }
+    ensures { result ≡ log_extent buffer.now length }
 {
     match vhdx_header::read(buffer, length) {
         vhdx_header::Answer::Refused(_) => extent::nowhere(),
@@ -53,7 +53,7 @@ pub fn first_steps(buffer: &mut [u8], length: u64, log: Extent, work: Work, coun
 // Sector i of the planned work alone, which is step i + 1, and 0; or refusal 21 or 22.
 pub fn one_sector(buffer: &mut [u8], length: u64, log: Extent, work: Work, i: u64) -> u64
     requires { Planned buffer.old length log work }
-    ensures value { result ≡ refusalOf (chosen (plan buffer.old length) (i + 1) length) }
+    ensures value { result ≡ refusal_of (chosen (plan buffer.old length) (i + 1) length) }
     ensures buffer_after { buffer.new ≡ (runs (single (plan buffer.old length) (i + 1) length) (file buffer.old length)).buffer }
 {
     match vhdx_walk::from(work.cursor).nth(extent::part(buffer, log), i) {
@@ -71,10 +71,10 @@ pub fn one_sector(buffer: &mut [u8], length: u64, log: Extent, work: Work, i: u6
 
 // The write of the sector that a walk is at, and the walk moved past it; nothing at the end.
 fn write_next(buffer: &mut [u8], log: Extent, walk: Walk) -> Walk
-    requires { (log.offset + log.length ≤ length_of buffer.old) × Ready (part_of buffer.old log) walk × Settled (part_of buffer.old log) walk × firstFits (sectorsLeft (part_of buffer.old log) walk) (length_of buffer.old) }
-    ensures buffer_after { buffer.new ≡ firstWritten (sectorsLeft (part_of buffer.old log) walk) buffer.old }
+    requires { (log.offset + log.length ≤ length_of buffer.old) × Ready (part_of buffer.old log) walk × Settled (part_of buffer.old log) walk × first_fits_in (sectors_left (part_of buffer.old log) walk) (length_of buffer.old) }
+    ensures buffer_after { buffer.new ≡ first_written (sectors_left (part_of buffer.old log) walk) buffer.old }
     ensures ready { Ready (part_of buffer.old log) result }
-    ensures result_value { (sectorsLeft (part_of buffer.old log) result ≡ drop 1 (sectorsLeft (part_of buffer.old log) walk)) × Settled (part_of buffer.old log) result }
+    ensures result_value { (sectors_left (part_of buffer.old log) result ≡ drop 1 (sectors_left (part_of buffer.old log) walk)) × Settled (part_of buffer.old log) result }
 {
     match walk.current(extent::part(buffer, log)) {
         Next::End => walk,
@@ -89,7 +89,7 @@ fn write_next(buffer: &mut [u8], log: Extent, walk: Walk) -> Walk
 // The first `count` of the sectors that a walk has before it, one a call, in their order.
 fn write_sectors(buffer: &mut [u8], log: Extent, start: Walk, count: u64)
     requires { Writable buffer.old log start }
-    ensures { buffer.new ≡ allWritten (take count (sectorsLeft (part_of buffer.old log) start)) buffer.old }
+    ensures { buffer.new ≡ all_written (take count (sectors_left (part_of buffer.old log) start)) buffer.old }
 {
     let mut walk = start;
     let mut k = 0;

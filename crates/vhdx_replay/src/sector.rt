@@ -1,7 +1,7 @@
 // The write of one sector of 4,096 bytes. It stores inside the sector alone, so that a torn write leaves all else as it was.
 ghost use Rattle.std.specs.Prelude.{◌≡◌, ◌+◌, ◌≤◌, length as length_of, take, drop};
 ghost use Rattle.extent.specs.Extent.{part as part_of};
-ghost use Rattle.vhdx_walk.specs.Bytes.{sectorBytes};
+ghost use Rattle.vhdx_walk.specs.Bytes.{sector_bytes};
 ghost use Rattle.vhdx_walk.specs.Cursor.{bytes_of, Held};
 ghost use Rattle.vhdx_steps.specs.Buffer.{put};
 
@@ -13,7 +13,7 @@ use vhdx_walk::run::Source;
 // The bytes of a data sector, whose descriptor and stored sector are at these offsets of the log.
 fn data(log: &[u8], descriptor: usize, sector: usize) -> [u8; 4096]
     requires { (descriptor + 32 ≤ length_of log.now) × (sector + 4096 ≤ length_of log.now) }
-    ensures { result ≡ sectorBytes (take 32 (drop descriptor log.now)) (take 4096 (drop sector log.now)) }
+    ensures { result ≡ sector_bytes (take 32 (drop descriptor log.now)) (take 4096 (drop sector log.now)) }
 {
     let mut out = store::blank();
     let end = sector + 4096;

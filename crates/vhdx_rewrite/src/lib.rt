@@ -1,9 +1,9 @@
 // The header that closing a log writes, and its write (change request Q-6).
 ghost use Rattle.std.specs.Prelude.{◌≡◌, ◌+◌, ◌<◌, length as length_of, replicate};
-ghost use Rattle.vhdx_header.specs.Header.{sequenceNumber};
-ghost use Rattle.vhdx_header.specs.Current.{header_at, firstMiB, otherSlot};
-ghost use Rattle.vhdx_rewrite.specs.Rewrite.{greatest, rewritten, closedHeader};
-ghost use Rattle.vhdx_rewrite.specs.Writing.{Closable, headerWritten};
+ghost use Rattle.vhdx_header.specs.Header.{sequence_number_of};
+ghost use Rattle.vhdx_header.specs.Current.{header_at, first_mib, other_slot};
+ghost use Rattle.vhdx_rewrite.specs.Rewrite.{greatest, rewritten, closed_header};
+ghost use Rattle.vhdx_rewrite.specs.Writing.{Closable, header_written};
 
 use field::number;
 use vhdx_replay::store;
@@ -16,7 +16,7 @@ fn no_identifier() -> [u8; 16]
 
 // The next sequence number, the given identifier, no log; all else is the current header's.
 fn rewrite(h: &[u8], identifier: &[u8; 16]) -> [u8; 4096]
-    requires { (length_of h.now ≡ 4096) × (sequenceNumber h.now < greatest) }
+    requires { (length_of h.now ≡ 4096) × (sequence_number_of h.now < greatest) }
     ensures value { result ≡ rewritten h.now identifier.now }
     ensures result_value { length_of result ≡ 4096 }
 {
@@ -32,8 +32,8 @@ fn rewrite(h: &[u8], identifier: &[u8; 16]) -> [u8; 4096]
 
 // With its checksum made anew.
 fn closed(h: &[u8], identifier: &[u8; 16]) -> [u8; 4096]
-    requires { (length_of h.now ≡ 4096) × (sequenceNumber h.now < greatest) }
-    ensures value { result ≡ closedHeader h.now identifier.now }
+    requires { (length_of h.now ≡ 4096) × (sequence_number_of h.now < greatest) }
+    ensures value { result ≡ closed_header h.now identifier.now }
     ensures result_value { length_of result ≡ 4096 }
 {
     let mut out = rewrite(h, identifier);
@@ -44,7 +44,7 @@ fn closed(h: &[u8], identifier: &[u8; 16]) -> [u8; 4096]
 
 // Where the header stands that is not the one at an offset.
 fn other_slot(slot: u64) -> u64
-    ensures { result ≡ otherSlot slot }
+    ensures { result ≡ other_slot slot }
 {
     if slot == 65536 { 131072 } else { 65536 }
 }
@@ -53,8 +53,8 @@ fn other_slot(slot: u64) -> u64
 // alone.
 pub fn write(buffer: &mut [u8], slot: u64, identifier: &[u8; 16])
     requires { Closable buffer.old slot }
-    ensures buffer_after { buffer.new ≡ headerWritten buffer.old slot identifier.now }
-    ensures identifier_value { length_of (closedHeader (header_at (firstMiB buffer.old) slot) identifier.now) ≡ 4096 }
+    ensures buffer_after { buffer.new ≡ header_written buffer.old slot identifier.now }
+    ensures identifier_value { length_of (closed_header (header_at (first_mib buffer.old) slot) identifier.now) ≡ 4096 }
 {
     let at = slot as usize;
     let end = at + 4096;

@@ -1,4 +1,4 @@
--- What `better` and `bestOf` answer: one of those that they were given, and one that is at least as good as each of them.
+-- What `better` and `best_of` answer: one of those that they were given, and one that is at least as good as each of them.
 -- Assumes nothing.
 use Prim.Native.Nat.{ℕ, zero, suc, ◌≤◌, ◌<◌}
 use mathlib.Core.Path.{◌≡◌, refl, subst}
@@ -9,7 +9,7 @@ use native.Mathlib.Omega.{arith}
 use native.Mathlib.Decide.{dec_lt}
 use lib.Dec.{ltb, eqb}
 use borrow.Author.Tests.{ltb-true, ltb-false, eqb-true, eqb-false}
-use Rattle.vhdx_sequence.specs.Sequence.{beats, better, bestOf}
+use Rattle.vhdx_sequence.specs.Sequence.{beats, better, best_of}
 use Rattle.vhdx_sequence.specs.declared.Sequence.{Sequence}
 
 -- p is at least as good as q
@@ -20,14 +20,14 @@ abbrev pub Covers : Option Sequence → Sequence → Type 0
 Covers none q = ⊥
 Covers (some p) q = AsGood p q
 
-pub asGood-refl : (p : Sequence) → AsGood p p
-asGood-refl p = inr (refl, omega arith)
+pub as_good-refl : (p : Sequence) → AsGood p p
+as_good-refl p = inr (refl, omega arith)
 
-pub asGood-trans : (p q r : Sequence) → AsGood p q → AsGood q r → AsGood p r
-asGood-trans p q r (inl a) (inl b) = inl (omega arith)
-asGood-trans p q r (inl a) (inr b) = inl (omega arith)
-asGood-trans p q r (inr a) (inl b) = inl (omega arith)
-asGood-trans p q r (inr a) (inr b) = inr (omega arith)
+pub as_good-trans : (p q r : Sequence) → AsGood p q → AsGood q r → AsGood p r
+as_good-trans p q r (inl a) (inl b) = inl (omega arith)
+as_good-trans p q r (inl a) (inr b) = inl (omega arith)
+as_good-trans p q r (inr a) (inl b) = inl (omega arith)
+as_good-trans p q r (inr a) (inr b) = inr (omega arith)
 
 beats-true : (q p : Sequence) → beats q p ≡ true → AsGood q p
 beats-true q p h = go (ltb p.number q.number) refl
@@ -62,7 +62,7 @@ better-left (some p) none q c = c
 better-left (some p) (some r) q c = go (beats r p) refl
   where
     go : (t : Bool) → beats r p ≡ t → AsGood (cond t r p) q
-    go true e = asGood-trans r p q (beats-true r p e) c
+    go true e = as_good-trans r p q (beats-true r p e) c
     go false e = c
 
 pub better-right : (o w : Option Sequence) (q : Sequence) → Covers w q → Covers (better o w) q
@@ -72,7 +72,7 @@ better-right (some p) (some r) q c = go (beats r p) refl
   where
     go : (t : Bool) → beats r p ≡ t → AsGood (cond t r p) q
     go true e = c
-    go false e = asGood-trans p r q (beats-false r p e) c
+    go false e = as_good-trans p r q (beats-false r p e) c
 
 -- what holds of either holds of the better
 abbrev pub All : (Sequence → Type 0) → Option Sequence → Type 0
@@ -87,19 +87,19 @@ all-better P (some p) (some r) a b = go (beats r p)
     go true q e = b q e
     go false q e = a q e
 
-pub all-best : (P : Sequence → Type 0) (m : ℕ) (f : ℕ → Option Sequence) → ((i : ℕ) → i < m → All P (f i)) → All P (bestOf m f)
-unfolding bestOf
+pub all-best : (P : Sequence → Type 0) (m : ℕ) (f : ℕ → Option Sequence) → ((i : ℕ) → i < m → All P (f i)) → All P (best_of m f)
+unfolding best_of
 all-best P zero f h q e = let z : ◌≡◌ {A = ℕ} 0 1 = cc in absurd (omega arith)
 all-best P (suc m) f h q e =
-    all-better P (bestOf m f) (f m) (all-best P m f (λ i k. h i (omega arith))) (h m (omega arith)) q e
+    all-better P (best_of m f) (f m) (all-best P m f (λ i k. h i (omega arith))) (h m (omega arith)) q e
 
-pub best-covers : (m : ℕ) (f : ℕ → Option Sequence) (i : ℕ) (q : Sequence) → i < m → Covers (f i) q → Covers (bestOf m f) q
-unfolding bestOf
+pub best-covers : (m : ℕ) (f : ℕ → Option Sequence) (i : ℕ) (q : Sequence) → i < m → Covers (f i) q → Covers (best_of m f) q
+unfolding best_of
 best-covers zero f i q h c = absurd (omega arith)
 best-covers (suc m) f i q h c = go (dec_lt i m) (λ k. best-covers m f i q k c)
   where
-    go : Dec (i < m) → (i < m → Covers (bestOf m f) q) → Covers (better (bestOf m f) (f m)) q
-    go (yes k) r = better-left (bestOf m f) (f m) q (r k)
+    go : Dec (i < m) → (i < m → Covers (best_of m f) q) → Covers (better (best_of m f) (f m)) q
+    go (yes k) r = better-left (best_of m f) (f m) q (r k)
     go (no k) r =
         let e : i ≡ m = omega arith in
-        better-right (bestOf m f) (f m) q (subst (λ (x : ℕ). Covers (f x) q) e c)
+        better-right (best_of m f) (f m) q (subst (λ (x : ℕ). Covers (f x) q) e c)

@@ -11,9 +11,9 @@ use lib.Dec.{eqb, leb}
 use borrow.Author.Tests.{eqb-true, eq-eqb, le-leb}
 use Rattle.decision.specs.Bounded.{only_if}
 use Rattle.vhdx_entry.specs.declared.Entry.{Entry}
-use Rattle.vhdx_sequence.specs.Sequence.{Link, upto, bestOf, ◌>>=◌, chain, sequence, activeIn}
+use Rattle.vhdx_sequence.specs.Sequence.{Link, upto, best_of, ◌>>=◌, chain, sequence, active_in}
 use Rattle.vhdx_sequence.specs.declared.Sequence.{Sequence}
-use Rattle.vhdx_sequence.proofs.Best.{All, Covers, AsGood, asGood-refl, all-best, best-covers}
+use Rattle.vhdx_sequence.proofs.Best.{All, Covers, AsGood, as_good-refl, all-best, best-covers}
 use Rattle.vhdx_sequence.proofs.Chain.{Apart, chain_first, chain-ended, chain-at, chain-number, chain_head, chain_fits}
 
 -- q is a log sequence
@@ -62,17 +62,17 @@ module _ (n : ℕ) (entry : ℕ → Option Entry) (mark : ℕ → Bool) (number 
       omega (arith, d.from, chain-count s k d.prior b d.there, apart.sized ((s + l.before) % n) l.entry (mod-lt (s + l.before) {m = n} (omega arith)) (chain-at n entry s (suc k) l b h))
 
   -- what the active sequence is
-  pub active-is : All (Is n entry) (activeIn n entry)
-  unfolding activeIn
-  active-is = all-best (Is n entry) n (λ s. bestOf n (λ k. sequence n entry s k)) (λ s b. all-best (Is n entry) n (λ k. sequence n entry s k) (λ k c. sequence-is s k b))
+  pub active-is : All (Is n entry) (active_in n entry)
+  unfolding active_in
+  active-is = all-best (Is n entry) n (λ s. best_of n (λ k. sequence n entry s k)) (λ s b. all-best (Is n entry) n (λ k. sequence n entry s k) (λ k c. sequence-is s k b))
 
-  active-covers : (q : Sequence) → Is n entry q → Covers (activeIn n entry) q
-  unfolding activeIn
+  active-covers : (q : Sequence) → Is n entry q → Covers (active_in n entry) q
+  unfolding active_in
   active-covers q i =
-      best-covers n (λ s. bestOf n (λ k. sequence n entry s k)) q.start q i.starts
+      best-covers n (λ s. best_of n (λ k. sequence n entry s k)) q.start q i.starts
       (best-covers n (λ k. sequence n entry q.start k) q.more q
       (omega (arith, chain-count q.start q.more i.link i.starts i.there, chain_fits n entry mark number apart q.start q.more i.link i.starts i.there))
-      (subst (λ (o : Option Sequence). Covers o q) (sym (is-sequence q i)) (asGood-refl q)))
+      (subst (λ (o : Option Sequence). Covers o q) (sym (is-sequence q i)) (as_good-refl q)))
 
   -- of two sequences each as good as the other there is one
   one : (p q : Sequence) → Is n entry p → Is n entry q → AsGood p q → AsGood q p → p ≡ q
@@ -91,8 +91,8 @@ module _ (n : ℕ) (entry : ℕ → Option Entry) (mark : ℕ → Bool) (number 
           a.0
 
   -- what is sound and covers all is the active sequence
-  pub is-active : (o : Option Sequence) → All (Is n entry) o → ((q : Sequence) → Is n entry q → Covers o q) → o ≡ activeIn n entry
-  is-active o a c = go o (activeIn n entry) a c active-is active-covers
+  pub is-active : (o : Option Sequence) → All (Is n entry) o → ((q : Sequence) → Is n entry q → Covers o q) → o ≡ active_in n entry
+  is-active o a c = go o (active_in n entry) a c active-is active-covers
     where
       go : (o w : Option Sequence) → All (Is n entry) o → ((q : Sequence) → Is n entry q → Covers o q) → All (Is n entry) w → ((q : Sequence) → Is n entry q → Covers w q) → o ≡ w
       go none none a c b d = refl

@@ -14,10 +14,10 @@ use borrow.Author.Tests.{eqb-true, eq-eqb, leb-true, le-leb}
 use Rattle.decision.specs.Bounded.{only_if}
 use Rattle.vhdx_entry.specs.declared.Entry.{Entry}
 use Rattle.vhdx_entry.proofs.Laws.{mod-round}
-use Rattle.vhdx_sequence.specs.Sequence.{Link, upto, better, chain, activeIn}
+use Rattle.vhdx_sequence.specs.Sequence.{Link, upto, better, chain, active_in}
 use Rattle.vhdx_sequence.specs.declared.Sequence.{Sequence}
-use Rattle.vhdx_sequence.specs.Scan.{State, fresh, run_from, away, headedBy, takenBy}
-use Rattle.vhdx_sequence.proofs.Best.{All, Covers, asGood-refl, better-left, better-right, all-better}
+use Rattle.vhdx_sequence.specs.Scan.{State, fresh, run_from, away, headed_by, taken_by}
+use Rattle.vhdx_sequence.proofs.Best.{All, Covers, as_good-refl, better-left, better-right, all-better}
 use Rattle.vhdx_sequence.proofs.Greatest.{Is, only, sequence-path, is-active}
 use Rattle.vhdx_sequence.proofs.Chain.{Apart, mod-on, Ended, chain_first, chain-one, chain_more, chain-ended, chain-at, chain-number, chain_head, Suffix, suffix-from, not-inside}
 
@@ -125,7 +125,7 @@ module _ (n : ℕ) (entry : ℕ → Option Entry) (mark : ℕ → Bool) (number 
 
   module _ (u r : ℕ) (e : Entry) (pos : 0 < n) (here : entry (u % n) ≡ some e) (run : Reach n entry u r e) where
     abbrev found : Option Sequence
-    found = headedBy n u r e (mark e.tail) (number e.tail)
+    found = headed_by n u r e (mark e.tail) (number e.tail)
 
     back : (r % n + away n (r % n) e.tail) % n ≡ e.tail
     back =
@@ -196,7 +196,7 @@ module _ (n : ℕ) (entry : ℕ → Option Entry) (mark : ℕ → Bool) (number 
             (sequence-path tail-is (omega arith) (sym c ∙ sym i.number))
 
     -- the entry at u is taken up
-    pub inv-some : (st : State) → Inv n entry u st → Inv n entry (suc u) (takenBy n u r st e (mark e.tail) (number e.tail))
+    pub inv-some : (st : State) → Inv n entry u st → Inv n entry (suc u) (taken_by n u r st e (mark e.tail) (number e.tail))
     inv-some st inv =
         record {
           run = inr (record {
@@ -215,7 +215,7 @@ module _ (n : ℕ) (entry : ℕ → Option Entry) (mark : ℕ → Bool) (number 
         covers q i (yes a) p = better-left st.best (found) q (inv.all q i a)
         covers q i (no a) p =
             better-right st.best (found) q
-            (subst (λ (o : Option Sequence). Covers o q) (sym (headed-finds q i (omega arith))) (asGood-refl q))
+            (subst (λ (o : Option Sequence). Covers o q) (sym (headed-finds q i (omega arith))) (as_good-refl q))
 
         decided : (s k : ℕ) (l : Link) → s < n → chain n entry s k ≡ some l → s + l.before < suc u → suc u ≤ s + upto l → Dec (s + l.before < u) → (u + e.size ≡ s + upto l) × (e.number ≡ l.entry.number) × (r ≤ s)
         decided s k l b h p o (yes a) =
@@ -302,5 +302,5 @@ module _ (n : ℕ) (entry : ℕ → Option Entry) (mark : ℕ → Bool) (number 
           absurd (no_run (omega arith))
 
   -- where the scan ends
-  pub done : (u : ℕ) (st : State) → Inv n entry u st → n ≤ u → ((u ≤ st.next) × (st.start < n) → ⊥) → st.best ≡ activeIn n entry
+  pub done : (u : ℕ) (st : State) → Inv n entry u st → n ≤ u → ((u ≤ st.next) × (st.start < n) → ⊥) → st.best ≡ active_in n entry
   done u st inv a b = is-active n entry mark number apart st.best inv.sound (inv-done u st inv a b)

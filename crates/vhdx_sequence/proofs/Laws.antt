@@ -9,10 +9,10 @@ use native.Mathlib.Omega.{arith}
 use lib.ListN.{length}
 use Rattle.field.specs.declared.Guid.{Guid}
 use Rattle.vhdx_entry.specs.declared.Entry.{Entry}
-use Rattle.vhdx_entry.specs.Ring.{sectorCount, ring}
-use Rattle.vhdx_entry.specs.Entry.{validEntry, size, entry_at}
-use Rattle.vhdx_sequence.specs.Sequence.{Link, upto, chain, activeSequence}
-use Rattle.vhdx_sequence.specs.Scan.{markAt, number_at}
+use Rattle.vhdx_entry.specs.Ring.{sector_count, ring}
+use Rattle.vhdx_entry.specs.Entry.{valid_entry, size, entry_at}
+use Rattle.vhdx_sequence.specs.Sequence.{Link, upto, chain, active_sequence}
+use Rattle.vhdx_sequence.specs.Scan.{mark_at, number_at}
 use Rattle.vhdx_sequence.specs.Linked.{Linked, total}
 use Rattle.vhdx_sequence.specs.declared.Sequence.{Sequence}
 use Rattle.vhdx_sequence.proofs.Chain.{Ended, mod-on, chain_first, chain-one, chain_more, chain-ended, chain_fits}
@@ -62,26 +62,26 @@ chain-tail n entry s (suc k) l h =
         }
 
 module _ (log : List ℕ) (guid : Guid) where
-  linked : (s k : ℕ) (l : Link) → chain (sectorCount log) (entry_at log guid) s k ≡ some l → Linked log guid s k × (total log s k ≡ upto l)
+  linked : (s k : ℕ) (l : Link) → chain (sector_count log) (entry_at log guid) s k ≡ some l → Linked log guid s k × (total log s k ≡ upto l)
   unfolding Linked total
   linked s zero l h =
-      let f = chain_first (sectorCount log) (entry_at log guid) s l h in
+      let f = chain_first (sector_count log) (entry_at log guid) s l h in
       let v = valid-here log guid s l.entry f.0 in
       (v.0, omega (arith, v.1, f.1))
-  linked s (suc k) l h = go (λ t to. linked t k to) (chain-tail (sectorCount log) (entry_at log guid) s k l h)
+  linked s (suc k) l h = go (λ t to. linked t k to) (chain-tail (sector_count log) (entry_at log guid) s k l h)
     where
-      go : ((t : ℕ) (to : Link) → chain (sectorCount log) (entry_at log guid) t k ≡ some to → Linked log guid t k × (total log t k ≡ upto to)) → Rest (sectorCount log) (entry_at log guid) s k l → ((validEntry guid (ring log s) ≡ true) × Linked log guid ((s + size (ring log s)) % sectorCount log) k) × (size (ring log s) + total log ((s + size (ring log s)) % sectorCount log) k ≡ upto l)
+      go : ((t : ℕ) (to : Link) → chain (sector_count log) (entry_at log guid) t k ≡ some to → Linked log guid t k × (total log t k ≡ upto to)) → Rest (sector_count log) (entry_at log guid) s k l → ((valid_entry guid (ring log s) ≡ true) × Linked log guid ((s + size (ring log s)) % sector_count log) k) × (size (ring log s) + total log ((s + size (ring log s)) % sector_count log) k ≡ upto l)
       go others r =
           let v = valid-here log guid s r.first r.starts in
-          let e : chain (sectorCount log) (entry_at log guid) ((s + size (ring log s)) % sectorCount log) k ≡ some r.to = ap (λ (x : ℕ). chain (sectorCount log) (entry_at log guid) ((s + x) % sectorCount log) k) v.1 ∙ r.there in
-          let i = others ((s + size (ring log s)) % sectorCount log) r.to e in
+          let e : chain (sector_count log) (entry_at log guid) ((s + size (ring log s)) % sector_count log) k ≡ some r.to = ap (λ (x : ℕ). chain (sector_count log) (entry_at log guid) ((s + x) % sector_count log) k) v.1 ∙ r.there in
+          let i = others ((s + size (ring log s)) % sector_count log) r.to e in
           ((v.0, i.0), omega (arith, v.1, i.1, r.reach, ap (λ (x : Entry). x.size) r.last))
 
-  pub found : (q : Sequence) → length log % 4096 ≡ 0 → activeSequence log guid ≡ some q → (q.start < sectorCount log) × Linked log guid q.start q.more × (total log q.start q.more ≤ sectorCount log)
-  unfolding activeSequence
+  pub found : (q : Sequence) → length log % 4096 ≡ 0 → active_sequence log guid ≡ some q → (q.start < sector_count log) × Linked log guid q.start q.more × (total log q.start q.more ≤ sector_count log)
+  unfolding active_sequence
   found q whole h =
       let a = apart log guid whole in
-      let i = active-is (sectorCount log) (entry_at log guid) (markAt log) (number_at log) a q h in
+      let i = active-is (sector_count log) (entry_at log guid) (mark_at log) (number_at log) a q h in
       let p = linked q.start q.more i.link i.there in
-      let f = chain_fits (sectorCount log) (entry_at log guid) (markAt log) (number_at log) a q.start q.more i.link i.starts i.there in
+      let f = chain_fits (sector_count log) (entry_at log guid) (mark_at log) (number_at log) a q.start q.more i.link i.starts i.there in
       (i.starts, p.0, omega (arith, p.1))

@@ -15,10 +15,10 @@ use Rattle.field.specs.declared.Guid.{Guid}
 use Rattle.vhdx_entry.specs.declared.Entry.{Entry}
 use Rattle.vhdx_entry.specs.declared.Slot.{Slot}
 use Rattle.vhdx_entry.specs.declared.Slot.TheVariants.{Valid, Empty}
-use Rattle.vhdx_entry.specs.Ring.{sectorCount, On}
+use Rattle.vhdx_entry.specs.Ring.{sector_count, On}
 use Rattle.vhdx_entry.specs.Entry.{entry_at, slot_of}
-use Rattle.vhdx_sequence.specs.Sequence.{sequenceOf, activeSequence}
-use Rattle.vhdx_sequence.specs.Scan.{Placed, moved, State, state_of, fresh, run_from, taken, goesOn, markAt, number_at, Takes}
+use Rattle.vhdx_sequence.specs.Sequence.{sequence_of, active_sequence}
+use Rattle.vhdx_sequence.specs.Scan.{Placed, moved, State, state_of, fresh, run_from, taken, goes_on, mark_at, number_at, Takes}
 use Rattle.vhdx_sequence.specs.declared.lap.Place.{Place}
 use Rattle.vhdx_sequence.specs.declared.scan.Trace.{Trace}
 use Rattle.vhdx_sequence.proofs.Apart.{apart, whole-sectors}
@@ -29,12 +29,12 @@ use Rattle.vhdx_sequence.proofs.Invariant.{Inv, Ran, Reach, reach, inv-fresh, in
 pub record Scanned (log : List ℕ) (guid : Guid) (place : Place) (st : Trace) : Type 0 where
   pub whole : length log % 4096 ≡ 0
   pub few : length log < 2 ^ 32
-  pub here : Placed (sectorCount log) place
-  pub there : Placed (sectorCount log) st.start
-  pub inv : Inv (sectorCount log) (entry_at log guid) place.count (state_of st)
+  pub here : Placed (sector_count log) place
+  pub there : Placed (sector_count log) st.start
+  pub inv : Inv (sector_count log) (entry_at log guid) place.count (state_of st)
 
 -- what the loop's test tells
-test-true : (n u : ℕ) (st : State) → goesOn n u st ≡ true → (u < n) ⊎ ((u ≤ st.next) × (st.start < n))
+test-true : (n u : ℕ) (st : State) → goes_on n u st ≡ true → (u < n) ⊎ ((u ≤ st.next) × (st.start < n))
 test-true n u st h = go (ltb u n) (leb u st.next) (ltb st.start n) refl refl refl h
   where
     go : (a b c : Bool) → ltb u n ≡ a → leb u st.next ≡ b → ltb st.start n ≡ c → (a || (b && c)) ≡ true → (u < n) ⊎ ((u ≤ st.next) × (st.start < n))
@@ -43,7 +43,7 @@ test-true n u st h = go (ltb u n) (leb u st.next) (ltb st.start n) refl refl ref
     go false true false p q r k = let z : ◌≡◌ {A = ℕ} 0 1 = cc in absurd (omega arith)
     go false false c p q r k = let z : ◌≡◌ {A = ℕ} 0 1 = cc in absurd (omega arith)
 
-test-false : (n u : ℕ) (st : State) → goesOn n u st ≡ false → (n ≤ u) × ((u ≤ st.next) × (st.start < n) → ⊥)
+test-false : (n u : ℕ) (st : State) → goes_on n u st ≡ false → (n ≤ u) × ((u ≤ st.next) × (st.start < n) → ⊥)
 test-false n u st h = go (ltb u n) refl h
   where
     go : (a : Bool) → ltb u n ≡ a → (a || (leb u st.next && ltb st.start n)) ≡ false → (n ≤ u) × ((u ≤ st.next) × (st.start < n) → ⊥)
@@ -57,7 +57,7 @@ test-false n u st h = go (ltb u n) refl h
             omega arith
 
 module _ {log : List ℕ} {guid : Guid} where
-  pub begun : {st : Trace} → length log % 4096 ≡ 0 → length log < 2 ^ 32 → state_of st ≡ fresh → st.start.pos.at ≡ 0 → st.start.pos.len ≡ sectorCount log → Scanned log guid st.start st
+  pub begun : {st : Trace} → length log % 4096 ≡ 0 → length log < 2 ^ 32 → state_of st ≡ fresh → st.start.pos.at ≡ 0 → st.start.pos.len ≡ sector_count log → Scanned log guid st.start st
   begun {st} w f e p l =
       record {
         whole = w;
@@ -65,50 +65,50 @@ module _ {log : List ℕ} {guid : Guid} where
         here = (p ∙ sym at_zero, l);
         there = (p ∙ sym at_zero, l);
         inv =
-            subst (λ (u : ℕ). Inv (sectorCount log) (entry_at log guid) u (state_of st)) (sym zero-count)
-            (subst (Inv (sectorCount log) (entry_at log guid) 0) (sym e) (inv-fresh (sectorCount log) (entry_at log guid) (markAt log) (number_at log) (apart log guid w)));
+            subst (λ (u : ℕ). Inv (sector_count log) (entry_at log guid) u (state_of st)) (sym zero-count)
+            (subst (Inv (sector_count log) (entry_at log guid) 0) (sym e) (inv-fresh (sector_count log) (entry_at log guid) (mark_at log) (number_at log) (apart log guid w)));
       }
     where
       zero-count : st.start.count ≡ 0
       zero-count = ap (λ (x : State). x.start) e
 
-      at_zero : st.start.count % sectorCount log ≡ 0
-      at_zero = ap (λ (x : ℕ). x % sectorCount log) zero-count ∙ zero-mod (sectorCount log)
+      at_zero : st.start.count % sector_count log ≡ 0
+      at_zero = ap (λ (x : ℕ). x % sector_count log) zero-count ∙ zero-mod (sector_count log)
 
   module _ {place : Place} {st : Trace} (now : Scanned log guid place st) where
-    lies : Apart (sectorCount log) (entry_at log guid) (markAt log) (number_at log)
+    lies : Apart (sector_count log) (entry_at log guid) (mark_at log) (number_at log)
     lies = apart log guid now.whole
 
     -- the last run ends before the end of the second lap
-    next-below : 0 < sectorCount log → st.next ≤ st.start.count + sectorCount log
+    next-below : 0 < sector_count log → st.next ≤ st.start.count + sector_count log
     next-below p = ⊎_elim (λ e. omega arith) ran now.inv.run
       where
-        ran : Ran (sectorCount log) (entry_at log guid) (state_of st) → st.next ≤ st.start.count + sectorCount log
+        ran : Ran (sector_count log) (entry_at log guid) (state_of st) → st.next ≤ st.start.count + sector_count log
         ran r =
-            omega (arith, r.ends, chain_fits (sectorCount log) (entry_at log guid) (markAt log) (number_at log) lies (st.start.count % sectorCount log) r.more r.link (mod-lt st.start.count {m = sectorCount log} p) r.there)
+            omega (arith, r.ends, chain_fits (sector_count log) (entry_at log guid) (mark_at log) (number_at log) lies (st.start.count % sector_count log) r.more r.link (mod-lt st.start.count {m = sector_count log} p) r.there)
 
     -- in a turn: the place is on one of two laps, its position is one of the log's ring
-    pub within : goesOn place.pos.len place.count (state_of st) ≡ true → (place.count < sectorCount log + sectorCount log) × On log place.pos
+    pub within : goes_on place.pos.len place.count (state_of st) ≡ true → (place.count < sector_count log + sector_count log) × On log place.pos
     within h =
         ⊎_elim (λ a. ok (omega arith) (omega arith))
-        (λ a. let p : 0 < sectorCount log = omega arith in ok p (omega (arith, next-below p)))
-        (test-true (sectorCount log) place.count (state_of st) (ap (λ (m : ℕ). goesOn m place.count (state_of st)) (sym now.here.1) ∙ h))
+        (λ a. let p : 0 < sector_count log = omega arith in ok p (omega (arith, next-below p)))
+        (test-true (sector_count log) place.count (state_of st) (ap (λ (m : ℕ). goes_on m place.count (state_of st)) (sym now.here.1) ∙ h))
       where
-        ok : 0 < sectorCount log → place.count < sectorCount log + sectorCount log → (place.count < sectorCount log + sectorCount log) × On log place.pos
+        ok : 0 < sector_count log → place.count < sector_count log + sector_count log → (place.count < sector_count log + sector_count log) × On log place.pos
         ok p q =
-            (q, (omega (arith, now.here, mod-lt place.count {m = sectorCount log} p), whole-sectors log now.whole ∙ ap (λ (m : ℕ). m * 4096) (sym now.here.1)))
+            (q, (omega (arith, now.here, mod-lt place.count {m = sector_count log} p), whole-sectors log now.whole ∙ ap (λ (m : ℕ). m * 4096) (sym now.here.1)))
 
     -- where the loop ends
-    pub finished : goesOn place.pos.len place.count (state_of st) ≡ false → sequenceOf st.best ≡ activeSequence log guid
-    unfolding activeSequence
+    pub finished : goes_on place.pos.len place.count (state_of st) ≡ false → sequence_of st.best ≡ active_sequence log guid
+    unfolding active_sequence
     finished h =
-        let t = test-false (sectorCount log) place.count (state_of st) (ap (λ (m : ℕ). goesOn m place.count (state_of st)) (sym now.here.1) ∙ h) in
-        done (sectorCount log) (entry_at log guid) (markAt log) (number_at log) lies place.count (state_of st) now.inv t.0 t.1
+        let t = test-false (sector_count log) place.count (state_of st) (ap (λ (m : ℕ). goes_on m place.count (state_of st)) (sym now.here.1) ∙ h) in
+        done (sector_count log) (entry_at log guid) (mark_at log) (number_at log) lies place.count (state_of st) now.inv t.0 t.1
 
-    placed_on : (by : ℕ) (next : Place) → next ≡ moved place by → Placed (sectorCount log) next
+    placed_on : (by : ℕ) (next : Place) → next ≡ moved place by → Placed (sector_count log) next
     placed_on by next e =
-        subst (Placed (sectorCount log)) (sym e) (
-          ap (λ (m : ℕ). (place.pos.at + by) % m) now.here.1 ∙ ap (λ (x : ℕ). (x + by) % sectorCount log) now.here.0 ∙ mod-add-mod place.count (sectorCount log) by,
+        subst (Placed (sector_count log)) (sym e) (
+          ap (λ (m : ℕ). (place.pos.at + by) % m) now.here.1 ∙ ap (λ (x : ℕ). (x + by) % sector_count log) now.here.0 ∙ mod-add-mod place.count (sector_count log) by,
           now.here.1,
         )
 
@@ -121,27 +121,27 @@ module _ {log : List ℕ} {guid : Guid} where
           here = placed_on 1 next e;
           there = now.there;
           inv =
-              subst (λ (x : ℕ). Inv (sectorCount log) (entry_at log guid) x (state_of st)) {x = suc place.count} (omega (arith, ap (λ (p : Place). p.count) e))
-              (inv-none (sectorCount log) (entry_at log guid) (markAt log) (number_at log) lies place.count (state_of st) (ap (entry_at log guid) (sym now.here.0) ∙ sym a ∙ ap slot_of b) now.inv);
+              subst (λ (x : ℕ). Inv (sector_count log) (entry_at log guid) x (state_of st)) {x = suc place.count} (omega (arith, ap (λ (p : Place). p.count) e))
+              (inv-none (sector_count log) (entry_at log guid) (mark_at log) (number_at log) lies place.count (state_of st) (ap (entry_at log guid) (sym now.here.0) ∙ sym a ∙ ap slot_of b) now.inv);
         }
 
     module _ (on : On log place.pos) {s : Slot} {e : Entry} (is : slot_of s ≡ entry_at log guid place.pos.at) (valid : s ≡ Valid e) where
-      some-sector : 0 < sectorCount log
+      some-sector : 0 < sector_count log
       some-sector = omega (arith, now.here.1)
 
-      entry_here : entry_at log guid (place.count % sectorCount log) ≡ some e
+      entry_here : entry_at log guid (place.count % sector_count log) ≡ some e
       entry_here = ap (entry_at log guid) (sym now.here.0) ∙ sym is ∙ ap slot_of valid
 
       pub sized-here : (0 < e.size) × (e.size ≤ place.pos.len) × (e.tail < place.pos.len)
       sized-here =
           subst (λ (m : ℕ). (0 < e.size) × (e.size ≤ m) × (e.tail < m)) (sym now.here.1)
-          (lies.sized (place.count % sectorCount log) e (mod-lt place.count {m = sectorCount log} some-sector) entry_here)
+          (lies.sized (place.count % sector_count log) e (mod-lt place.count {m = sector_count log} some-sector) entry_here)
 
-      reached : Reach (sectorCount log) (entry_at log guid) place.count (run_from place.count (state_of st) e.number) e
-      reached = reach (sectorCount log) (entry_at log guid) (markAt log) (number_at log) lies place.count (state_of st) e some-sector now.inv entry_here
+      reached : Reach (sector_count log) (entry_at log guid) place.count (run_from place.count (state_of st) e.number) e
+      reached = reach (sector_count log) (entry_at log guid) (mark_at log) (number_at log) lies place.count (state_of st) e some-sector now.inv entry_here
 
       -- an entry starts here, and may be taken up
-      pub takes : place.count < sectorCount log + sectorCount log → Takes log place st e
+      pub takes : place.count < sector_count log + sector_count log → Takes log place st e
       takes u =
           record {
             on = on;
@@ -165,13 +165,13 @@ module _ {log : List ℕ} {guid : Guid} where
             here = placed_on e.size next m;
             there = subst (λ (m : ℕ). Placed m after.start) now.here.1 p;
             inv =
-                subst (λ (x : ℕ). Inv (sectorCount log) (entry_at log guid) x (state_of after)) (sym (ap (λ (p : Place). p.count) m))
-                (subst (Inv (sectorCount log) (entry_at log guid) (place.count + e.size)) (sym (t ∙ ap (λ (n : ℕ). taken log n place.count (state_of st) e) now.here.1))
-                (subst (λ (x : ℕ). Inv (sectorCount log) (entry_at log guid) x state) {x = suc (place.count + (e.size - 1))} (omega (arith, sized-here))
-                (inv-skip (sectorCount log) (entry_at log guid) (markAt log) (number_at log) lies place.count e state some-sector entry_here
-                (inv-some (sectorCount log) (entry_at log guid) (markAt log) (number_at log) lies place.count (run_from place.count (state_of st) e.number) e some-sector entry_here reached (state_of st) now.inv)
+                subst (λ (x : ℕ). Inv (sector_count log) (entry_at log guid) x (state_of after)) (sym (ap (λ (p : Place). p.count) m))
+                (subst (Inv (sector_count log) (entry_at log guid) (place.count + e.size)) (sym (t ∙ ap (λ (n : ℕ). taken log n place.count (state_of st) e) now.here.1))
+                (subst (λ (x : ℕ). Inv (sector_count log) (entry_at log guid) x state) {x = suc (place.count + (e.size - 1))} (omega (arith, sized-here))
+                (inv-skip (sector_count log) (entry_at log guid) (mark_at log) (number_at log) lies place.count e state some-sector entry_here
+                (inv-some (sector_count log) (entry_at log guid) (mark_at log) (number_at log) lies place.count (run_from place.count (state_of st) e.number) e some-sector entry_here reached (state_of st) now.inv)
                 (e.size - 1) (omega (arith, sized-here)))));
           }
         where
           state : State
-          state = taken log (sectorCount log) place.count (state_of st) e
+          state = taken log (sector_count log) place.count (state_of st) e

@@ -1,13 +1,13 @@
 -- The scan that finds the active log sequence: its state, and what a turn does to it. A place on the scan's way is counted
 -- on past the ring's end: place u is sector u % n of a log of n sectors.
 -- Assumes nothing.
-use Rattle.std.specs.Prelude.{Bool, cond, ◌&&◌, ◌||◌, List, ◌≡◌, ℕ, ◌+◌, ◌-◌, ◌%◌, ◌^◌, ◌≤◌, ◌<◌, leb, ltb, eqb}
+use Rattle.std.specs.Prelude.{Bool, cond, ◌&&◌, ◌||◌, List, ◌≡◌, ℕ, ◌+◌, ◌-◌, ◌%◌, ◌^◌, ◌≤◌, ◌<◌, nat_le, nat_lt, nat_eq}
 use Rattle.std.proofs.Math.Option.{Option, none}
 use Rattle.decision.specs.Bounded.{only_if}
 use Rattle.vhdx_entry.specs.declared.Entry.{Entry}
-use Rattle.vhdx_entry.specs.Ring.{sectorAt, advanced, On}
-use Rattle.vhdx_entry.specs.Entry.{signatureRule, sequenceNumber}
-use Rattle.vhdx_sequence.specs.Sequence.{better, sequenceOf}
+use Rattle.vhdx_entry.specs.Ring.{sector_at, advanced, On}
+use Rattle.vhdx_entry.specs.Entry.{signature_rule, sequence_number_of}
+use Rattle.vhdx_sequence.specs.Sequence.{better, sequence_of}
 use Rattle.vhdx_sequence.specs.declared.Sequence.{Sequence}
 use Rattle.vhdx_sequence.specs.declared.lap.Place.{Place}
 use Rattle.vhdx_sequence.specs.declared.scan.Trace.{Trace}
@@ -34,7 +34,7 @@ pub record State : Type 0 where
 
 -- what the code keeps of it
 abbrev pub state_of : Trace → State
-state_of t = record { start = t.start.count; next = t.next; number = t.number; best = sequenceOf t.best }
+state_of t = record { start = t.start.count; next = t.next; number = t.number; best = sequence_of t.best }
 
 -- before the first entry
 abbrev pub fresh : State
@@ -42,35 +42,35 @@ fresh = record { start = 0; next = 0; number = 0; best = none }
 
 -- where the run began that an entry with this number at place u is in: it goes on with the state's run, or begins one
 abbrev pub run_from : ℕ → State → ℕ → ℕ
-run_from u st number = cond (eqb u st.next && eqb number (st.number + 1)) st.start u
+run_from u st number = cond (nat_eq u st.next && nat_eq number (st.number + 1)) st.start u
 
 -- the sequence whose head is the entry e at place u, in the run from place r on: the sector at its Tail is marked "loge" and
 -- lies in the run, not past u. `marked` and `first`: whether that sector is marked, and the sequence number in it
-abbrev pub headedBy : ℕ → ℕ → ℕ → Entry → Bool → ℕ → Option Sequence
-headedBy n u r e marked first =
-    only_if (marked && leb (away n (r % n) e.tail) (u - r))
+abbrev pub headed_by : ℕ → ℕ → ℕ → Entry → Bool → ℕ → Option Sequence
+headed_by n u r e marked first =
+    only_if (marked && nat_le (away n (r % n) e.tail) (u - r))
     (record { start = e.tail; more = e.number - first; number = e.number })
 
 -- the state after the entry e at place u, in the run from place r on; `marked` and `first` as above
-abbrev pub takenBy : ℕ → ℕ → ℕ → State → Entry → Bool → ℕ → State
-takenBy n u r st e marked first =
-    record { start = r; next = u + e.size; number = e.number; best = better st.best (headedBy n u r e marked first) }
+abbrev pub taken_by : ℕ → ℕ → ℕ → State → Entry → Bool → ℕ → State
+taken_by n u r st e marked first =
+    record { start = r; next = u + e.size; number = e.number; best = better st.best (headed_by n u r e marked first) }
 
 -- the first lap is not done, or a run that began in it goes on
-abbrev pub goesOn : ℕ → ℕ → State → Bool
-goesOn n u st = ltb u n || (leb u st.next && ltb st.start n)
+abbrev pub goes_on : ℕ → ℕ → State → Bool
+goes_on n u st = nat_lt u n || (nat_le u st.next && nat_lt st.start n)
 
 -- whether sector s of the log is marked "loge"
-abbrev pub markAt : List ℕ → ℕ → Bool
-markAt log s = signatureRule (sectorAt log s)
+abbrev pub mark_at : List ℕ → ℕ → Bool
+mark_at log s = signature_rule (sector_at log s)
 
 -- the sequence number that stands in sector s of the log, if an entry starts there
 abbrev pub number_at : List ℕ → ℕ → ℕ
-number_at log s = sequenceNumber (sectorAt log s)
+number_at log s = sequence_number_of (sector_at log s)
 
 -- the state after the entry e at place u of a log of n sectors
 abbrev pub taken : List ℕ → ℕ → ℕ → State → Entry → State
-taken log n u st e = takenBy n u (run_from u st e.number) st e (markAt log e.tail) (number_at log e.tail)
+taken log n u st e = taken_by n u (run_from u st e.number) st e (mark_at log e.tail) (number_at log e.tail)
 
 -- an entry at a place may be taken up: its Tail is a sector of the ring, the run that it is in began at a place that the scan
 -- came past, and the places can be counted

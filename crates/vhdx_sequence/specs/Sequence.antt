@@ -1,11 +1,11 @@
 -- Log sequences, and the active one of them (document 01, "The log"). Offsets in the log are counted in sectors.
 -- Assumes nothing.
-use Rattle.std.specs.Prelude.{Bool, cond, ◌&&◌, ◌||◌, List, ℕ, zero, suc, ◌+◌, ◌%◌, ltb, leb, eqb}
+use Rattle.std.specs.Prelude.{Bool, cond, ◌&&◌, ◌||◌, List, ℕ, zero, suc, ◌+◌, ◌%◌, nat_lt, nat_le, nat_eq}
 use Rattle.std.proofs.Math.Option.{Option, none, some}
 use Rattle.decision.specs.Bounded.{only_if}
 use Rattle.field.specs.declared.Guid.{Guid}
 use Rattle.vhdx_entry.specs.declared.Entry.{Entry}
-use Rattle.vhdx_entry.specs.Ring.{sectorCount}
+use Rattle.vhdx_entry.specs.Ring.{sector_count}
 use Rattle.vhdx_entry.specs.Entry.{entry_at}
 use Rattle.vhdx_sequence.specs.declared.Sequence.{Sequence}
 use Rattle.vhdx_sequence.specs.declared.Found.{Found}
@@ -28,7 +28,7 @@ upto l = l.before + l.entry.size
 
 -- "The active one has the greatest head number; of equals, the lowest first offset": q is preferred to p
 abbrev pub beats : Sequence → Sequence → Bool
-beats q p = ltb p.number q.number || (eqb p.number q.number && ltb q.start p.start)
+beats q p = nat_lt p.number q.number || (nat_eq p.number q.number && nat_lt q.start p.start)
 
 -- the preferred one of two
 abbrev pub better : Option Sequence → Option Sequence → Option Sequence
@@ -37,9 +37,9 @@ better (some p) none = some p
 better (some p) (some q) = some (cond (beats q p) q p)
 
 -- the preferred one of f 0, .., f (m - 1)
-unfoldable pub bestOf : ℕ → (ℕ → Option Sequence) → Option Sequence
-bestOf zero f = none
-bestOf (suc m) f = better (bestOf m f) (f m)
+unfoldable pub best_of : ℕ → (ℕ → Option Sequence) → Option Sequence
+best_of zero f = none
+best_of (suc m) f = better (best_of m f) (f m)
 
 -- a log of n sectors, where `entry s` is the valid entry that starts at sector s, if there is one
 module _ (n : ℕ) (entry : ℕ → Option Entry) where
@@ -52,25 +52,25 @@ module _ (n : ℕ) (entry : ℕ → Option Entry) where
   chain s (suc k) = do
     l ← chain s k
     e ← entry ((s + upto l) % n)
-    only_if (eqb e.number (l.entry.number + 1)) (record { before = upto l; entry = e })
+    only_if (nat_eq e.number (l.entry.number + 1)) (record { before = upto l; entry = e })
 
   -- "total length at most the log's, the first at the last one's Tail. The last is its head.": the log sequence that these
   -- k + 1 entries are, if they are one
   unfoldable pub sequence : ℕ → ℕ → Option Sequence
   sequence s k = do
     l ← chain s k
-    only_if (leb (upto l) n && eqb l.entry.tail s) (record { start = s; more = k; number = l.entry.number })
+    only_if (nat_le (upto l) n && nat_eq l.entry.tail s) (record { start = s; more = k; number = l.entry.number })
 
   -- the active one: the preferred one over every first sector below n and every k below n (each entry has at least one
   -- sector, so that a log sequence has at most n entries)
-  unfoldable pub activeIn : Option Sequence
-  activeIn = bestOf n (λ s. bestOf n (λ k. sequence s k))
+  unfoldable pub active_in : Option Sequence
+  active_in = best_of n (λ s. best_of n (λ k. sequence s k))
 
 -- the active log sequence of a log's bytes, in an image whose log has this identifier
-unfoldable pub activeSequence : List ℕ → Guid → Option Sequence
-activeSequence log guid = activeIn (sectorCount log) (entry_at log guid)
+unfoldable pub active_sequence : List ℕ → Guid → Option Sequence
+active_sequence log guid = active_in (sector_count log) (entry_at log guid)
 
 -- what the code answers
-abbrev pub sequenceOf : Found → Option Sequence
-sequenceOf (At q) = some q
-sequenceOf Nothing = none
+abbrev pub sequence_of : Found → Option Sequence
+sequence_of (At q) = some q
+sequence_of Nothing = none

@@ -1,6 +1,6 @@
 // Places on the scan's way: over the ring's sectors once, and on past its end.
 ghost use Rattle.std.specs.Prelude.{◌≡◌, ◌+◌, ◌≤◌, ◌<◌, ◌^◌};
-ghost use Rattle.vhdx_sequence.specs.Scan.{moved, away as awayOf};
+ghost use Rattle.vhdx_sequence.specs.Scan.{moved, away as away_of};
 
 use vhdx_entry::ring::RingPos;
 
@@ -27,7 +27,7 @@ impl Place {
 // How many sectors on in the ring sector `to` lies from a position.
 pub fn away(from: RingPos, to: usize) -> usize
     requires { (from.at < from.len) × (to < from.len) × (from.len < 2 ^ 32) }
-    ensures { result ≡ awayOf from.len from.at to }
+    ensures { result ≡ away_of from.len from.at to }
 {
     if from.at <= to {
         to - from.at

@@ -6,7 +6,7 @@ mod order;
 pub mod scan;
 
 ghost use Rattle.std.specs.Prelude.{◌≡◌, ◌%◌, ◌<◌, ◌^◌, length};
-ghost use Rattle.vhdx_sequence.specs.Sequence.{sequenceOf, activeSequence};
+ghost use Rattle.vhdx_sequence.specs.Sequence.{sequence_of, active_sequence};
 
 use scan::Trace;
 use vhdx_entry::Slot;
@@ -30,7 +30,7 @@ pub enum Found {
 // in one run, so that a sequence with this entry as its head starts in the run, at the entry's Tail.
 pub fn active(log: &[u8], guid: field::Guid) -> Found
     requires { (length log.now % 4096 ≡ 0) × (length log.now < 2 ^ 32) }
-    ensures { sequenceOf result ≡ activeSequence log.now guid }
+    ensures { sequence_of result ≡ active_sequence log.now guid }
 {
     let mut trace = Trace::new(log.len() / vhdx_entry::ring::SECTOR);
     // the log's first sector

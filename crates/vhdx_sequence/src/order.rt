@@ -1,12 +1,12 @@
 // Which of two log sequences is preferred.
 ghost use Rattle.std.specs.Prelude.{◌≡◌};
-ghost use Rattle.vhdx_sequence.specs.Sequence.{sequenceOf, better as betterOf};
+ghost use Rattle.vhdx_sequence.specs.Sequence.{sequence_of, better as better_of};
 
 use crate::Found;
 
 // The greater head number; of equals, the lower first sector.
 pub fn better(p: Found, q: Found) -> Found
-    ensures { sequenceOf result ≡ betterOf (sequenceOf p) (sequenceOf q) }
+    ensures { sequence_of result ≡ better_of (sequence_of p) (sequence_of q) }
 {
     match p {
         Found::Nothing => q,

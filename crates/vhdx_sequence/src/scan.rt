@@ -1,8 +1,8 @@
 // The scan's state: the run of entries that it is in, and the best log sequence so far.
 ghost use Rattle.std.specs.Prelude.{◌≡◌, ◌-◌, ◌%◌, ◌≤◌, ◌<◌, ◌^◌, length};
-ghost use Rattle.vhdx_entry.specs.Entry.{signatureRule, sequenceNumber};
-ghost use Rattle.vhdx_sequence.specs.Sequence.{sequenceOf};
-ghost use Rattle.vhdx_sequence.specs.Scan.{Placed, state_of, fresh, run_from, goesOn, headedBy, takenBy, taken, Taking, Takes};
+ghost use Rattle.vhdx_entry.specs.Entry.{signature_rule, sequence_number_of};
+ghost use Rattle.vhdx_sequence.specs.Sequence.{sequence_of};
+ghost use Rattle.vhdx_sequence.specs.Scan.{Placed, state_of, fresh, run_from, goes_on, headed_by, taken_by, taken, Taking, Takes};
 
 use crate::lap::Place;
 use crate::{Found, Sequence, lap, order};
@@ -38,7 +38,7 @@ impl Trace {
 
     // The first lap is not done, or a run that began in it goes on.
     pub fn goes_on(self, place: Place) -> bool
-        ensures { result ≡ goesOn place.pos.len place.count (state_of self) }
+        ensures { result ≡ goes_on place.pos.len place.count (state_of self) }
     {
         if place.count < place.pos.len {
             return true;
@@ -70,7 +70,7 @@ impl Trace {
     // The same, given the sector that its Tail names.
     pub fn take_by(self, tail: &[u8], place: Place, e: Entry) -> Trace
         requires { (length tail.now ≡ 4096) × Taking place self e }
-        ensures result_value { state_of result ≡ takenBy place.pos.len place.count (run_from place.count (state_of self) e.number) (state_of self) e (signatureRule tail.now) (sequenceNumber tail.now) }
+        ensures result_value { state_of result ≡ taken_by place.pos.len place.count (run_from place.count (state_of self) e.number) (state_of self) e (signature_rule tail.now) (sequence_number_of tail.now) }
         ensures placed { Placed place.pos.len result.start }
     {
         let best = self.best;
@@ -104,7 +104,7 @@ fn run_from(trace: Trace, place: Place, number: u64) -> Place
 // entry of the run starts there if it is marked and lies in the run.
 fn headed(tail: &[u8], place: Place, start: Place, e: Entry) -> Found
     requires { (length tail.now ≡ 4096) × (start.count ≤ place.count) × (e.tail < start.pos.len) × (start.pos.len < 2 ^ 32) × (start.pos.at ≡ start.count % start.pos.len) }
-    ensures { sequenceOf result ≡ headedBy start.pos.len place.count start.count e (signatureRule tail.now) (sequenceNumber tail.now) }
+    ensures { sequence_of result ≡ headed_by start.pos.len place.count start.count e (signature_rule tail.now) (sequence_number_of tail.now) }
 {
     let marked = header::is_marked(tail);
     let inside = lap::away(start.pos, e.tail) <= place.count - start.count;

@@ -1,6 +1,6 @@
 // The facts as numbers in an array of 32, as programs in other languages hold them: slots 3 to 15.
 ghost use Rattle.std.specs.Prelude.{◌≡◌};
-ghost use Rattle.vhdx_slots.specs.Slots.{bit, factsIn, factsFrom};
+ghost use Rattle.vhdx_slots.specs.Slots.{bit, facts_in, facts_from};
 
 use extent::Extent;
 use vhdx_facts::Facts;
@@ -12,7 +12,7 @@ pub fn bit_of(b: bool) -> u64
 }
 
 pub fn write(facts: Facts, slots: &mut [u64; 32])
-    ensures { slots.new ≡ factsIn facts slots.old }
+    ensures { slots.new ≡ facts_in facts slots.old }
 {
     let id = facts.disk_id;
     let bat = facts.bat;
@@ -34,7 +34,7 @@ pub fn write(facts: Facts, slots: &mut [u64; 32])
 }
 
 pub fn read(slots: &[u64; 32]) -> Facts
-    ensures { result ≡ factsFrom slots.now }
+    ensures { result ≡ facts_from slots.now }
 {
     Facts {
         logical_sector_size: slots[3],

@@ -6,9 +6,9 @@ use Prim.Native.Nat.{ℕ, ◌≤◌}
 use native.Mathlib.Omega.{arith}
 use lib.ListN.{length}
 use Rattle.vhdx_walk.specs.Entries.{Sector}
-use Rattle.vhdx_log.specs.Work.{Plan, refused, apply, sectorsPlanned}
-use Rattle.vhdx_steps.specs.Steps.{File, lengthAfter, Ran, stop}
-use Rattle.vhdx_steps.specs.Calls.{plan_of, finalLengthOf, Call, attach, step, Calls, none, then}
+use Rattle.vhdx_log.specs.Work.{Plan, refused, apply, sectors_planned}
+use Rattle.vhdx_steps.specs.Steps.{File, length_after, Ran, stop}
+use Rattle.vhdx_steps.specs.Calls.{plan_of, final_length_of, Call, attach, step, Calls, none, then}
 use Rattle.vhdx_steps.specs.Failures.{Lost, Reopened, History, original, called as after, lost, reopened, flushed, failed, EveryCallIsALoss, OneFailure}
 use Rattle.vhdx_steps.proofs.Restart.{nothing, both, Reads, planned, called}
 use Rattle.vhdx_steps.proofs.Reading.{header_of, reads}
@@ -19,10 +19,10 @@ use Rattle.vhdx_steps.proofs.Reading.{header_of, reads}
 still : {f g : File} → Ran [] f g → (length g.buffer ≡ length f.buffer) × Lost f.size [] f g
 still {f} stop = (refl, nothing f.size [] (omega arith))
 
-leaves : {f g : File} → Call f g → (length g.buffer ≡ length f.buffer) × Lost (finalLengthOf f) (sectorsPlanned (plan_of f)) f g
+leaves : {f g : File} → Call f g → (length g.buffer ≡ length f.buffer) × Lost (final_length_of f) (sectors_planned (plan_of f)) f g
 leaves {f} {g} c = go (plan_of f) refl c
   where
-    go : (p : Plan) → plan_of f ≡ p → Call f g → (length g.buffer ≡ length f.buffer) × Lost (lengthAfter (plan_of f) f.size) (sectorsPlanned (plan_of f)) f g
+    go : (p : Plan) → plan_of f ≡ p → Call f g → (length g.buffer ≡ length f.buffer) × Lost (length_after (plan_of f) f.size) (sectors_planned (plan_of f)) f g
     go (refused c) e (attach r) = rw e (still (rw e at r))
     go (refused c) e (step k r) = rw e (still (rw e at r))
     go (apply m ss) e c =
@@ -53,12 +53,12 @@ as-history x (then c cs) = as-history (after x c) cs
 
 module _ {kept : ℕ → Type 0} {o : File} {m : ℕ} {ss : List Sector} (R : Reads kept o m ss) where
   -- a file that is left of o has its plan: so what is lost of it is lost by that plan
-  more : {f g : File} → Lost m ss o f → Lost (finalLengthOf f) (sectorsPlanned (plan_of f)) f g → Lost m ss o g
+  more : {f g : File} → Lost m ss o f → Lost (final_length_of f) (sectors_planned (plan_of f)) f g → Lost m ss o g
   more h x = both m ss h (rw (planned R h) at x)
 
   pub reopened-more : {f g : File} → Lost m ss o f → Reopened f g → Lost m ss o g
   reopened-more {f} {g} h x =
-      both m ss h (reopened-lost m ss h.to (subst (λ (p : Plan). lengthAfter p f.size ≤ length g.buffer) (planned R h) x.capacity) x)
+      both m ss h (reopened-lost m ss h.to (subst (λ (p : Plan). length_after p f.size ≤ length g.buffer) (planned R h) x.capacity) x)
 
   -- of the file as it was flushed last, and of the file as it is
   pub left : {d f : File} → History o d f → Lost m ss o d × Lost m ss o f
@@ -75,4 +75,4 @@ every-call-is-a-loss f g c = (leaves c).1
 pub one-failure : OneFailure
 one-failure o d f m ss e x =
     let h = header_of o.buffer o.size e in
-    subst (λ (p : Plan). Lost (lengthAfter p o.size) (sectorsPlanned p) o f) (sym e) (left (reads o h.0 h.1 e) x).1
+    subst (λ (p : Plan). Lost (length_after p o.size) (sectors_planned p) o f) (sym e) (left (reads o h.0 h.1 e) x).1

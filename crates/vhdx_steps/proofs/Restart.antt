@@ -136,10 +136,10 @@ beyond m ss i h (write s ∷ w) f a low fits =
 -- ---- writing all sectors brings two buffers together that agree elsewhere
 
 pub record Agree (m : ℕ) (ts : List Sector) (f g : File) : Type 0 where
-  pub big-f : m ≤ length f.buffer
-  pub big-g : m ≤ length g.buffer
-  pub size-f : f.size ≡ m
-  pub size-g : g.size ≡ m
+  pub big_f : m ≤ length f.buffer
+  pub big_g : m ≤ length g.buffer
+  pub size_f : f.size ≡ m
+  pub size_g : g.size ≡ m
   pub rest : (i : ℕ) → i < m → ¬ Named ts i → get_or f.buffer i 0 ≡ get_or g.buffer i 0
 
 pub in-or-out : (i : ℕ) (s : Sector) → In i s ⊎ (¬ In i s)
@@ -149,15 +149,15 @@ in-or-out i s =
 -- one sector, written in both
 pub meet_one : (m : ℕ) (s : Sector) (ts : List Sector) {f g : File} → end s ≤ m → Agree m (s ∷ ts) f g → Agree m ts (run (write s) f) (run (write s) g)
 meet_one m s ts {f} {g} e a =
-    let bf : end s ≤ length f.buffer = omega (arith, e, a.big-f) in
-    let bg : end s ≤ length g.buffer = omega (arith, e, a.big-g) in
+    let bf : end s ≤ length f.buffer = omega (arith, e, a.big_f) in
+    let bg : end s ≤ length g.buffer = omega (arith, e, a.big_g) in
     let lf = put-length f.buffer s.offset s.bytes bf in
     let lg = put-length g.buffer s.offset s.bytes bg in
     record {
-      big-f = omega (arith, a.big-f, lf);
-      big-g = omega (arith, a.big-g, lg);
-      size-f = a.size-f;
-      size-g = a.size-g;
+      big_f = omega (arith, a.big_f, lf);
+      big_g = omega (arith, a.big_g, lg);
+      size_f = a.size_f;
+      size_g = a.size_g;
       rest = λ i l n.
           ⊎_elim
           (λ x. put_in f.buffer s.offset s.bytes bf i x.0 x.1 ∙ sym (put_in g.buffer s.offset s.bytes bg i x.0 x.1))
@@ -173,15 +173,15 @@ meet m (s ∷ ts) e a = meet m ts e.1 (meet_one m s ts e.0 a)
 
 pub same-image : (m : ℕ) {f g : File} → Agree m [] f g → take f.size f.buffer ≡ take g.size g.buffer
 same-image m {f} {g} a =
-    rw (a.size-f, a.size-g)
+    rw (a.size_f, a.size_g)
     (ext_get_or 0 (take m f.buffer) (take m g.buffer) (lf ∙ sym lg)
     (λ i l. get_or-take m f.buffer i 0 (omega (arith, lf)) ∙ a.rest i (omega (arith, lf)) (λ x. x) ∙ sym (get_or-take m g.buffer i 0 (omega (arith, lf)))))
   where
     lf : length (take m f.buffer) ≡ m
-    lf = length-take-le m f.buffer a.big-f
+    lf = length-take-le m f.buffer a.big_f
 
     lg : length (take m g.buffer) ≡ m
-    lg = length-take-le m g.buffer a.big-g
+    lg = length-take-le m g.buffer a.big_g
 
 -- all steps done on the file as it is now, and on the file as it came
 module _ {o : File} {m : ℕ} {ss : List Sector} (grows : o.size ≤ m) (fits : m ≤ length o.buffer) (ends : EndBy m ss) where
@@ -190,10 +190,10 @@ module _ {o : File} {m : ℕ} {ss : List Sector} (grows : o.size ≤ m) (fits : 
       let b = h.capacity fits in
       let low = zeroed-low f.buffer f.size m h.to b in
       record {
-        big-f = omega (arith, b, zeroed-length f.buffer f.size m h.to b);
-        big-g = omega (arith, fits, zeroed-length o.buffer o.size m grows fits);
-        size-f = refl;
-        size-g = refl;
+        big_f = omega (arith, b, zeroed-length f.buffer f.size m h.to b);
+        big_g = omega (arith, fits, zeroed-length o.buffer o.size m grows fits);
+        size_f = refl;
+        size_g = refl;
         rest = λ i l n.
             ⊎_elim
             (λ a. low i (omega (arith, h.from)) ∙ h.given i a n ∙ sym (zeroed-low o.buffer o.size m grows fits i a))
@@ -235,4 +235,4 @@ module _ {kept : ℕ → Type 0} {o : File} {m : ℕ} {ss : List Sector} (R : Re
   -- so both leave the same file
   pub same-file : {f : File} → Lost m ss o f → ((runs (steps (apply m ss)) f).size ≡ (runs (steps (apply m ss)) o).size)
       × (take (runs (steps (apply m ss)) f).size (runs (steps (apply m ss)) f).buffer ≡ take (runs (steps (apply m ss)) o).size (runs (steps (apply m ss)) o).buffer)
-  same-file h = let a = all_done R.grows R.fits R.ends h in (a.size-f ∙ sym a.size-g, same-image m a)
+  same-file h = let a = all_done R.grows R.fits R.ends h in (a.size_f ∙ sym a.size_g, same-image m a)

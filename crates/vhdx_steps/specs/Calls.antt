@@ -3,7 +3,7 @@
 use Rattle.std.specs.Prelude.{List, ℕ}
 use Rattle.vhdx_log.specs.Work.{Plan}
 use Rattle.vhdx_log.specs.Plan.{plan}
-use Rattle.vhdx_steps.specs.Steps.{File, Ran, lengthAfter, steps, single}
+use Rattle.vhdx_steps.specs.Steps.{File, Ran, length_after, steps, single}
 
 -- the first n bytes of a buffer
 abbrev pub file : List ℕ → ℕ → File
@@ -14,8 +14,8 @@ abbrev pub plan_of : File → Plan
 plan_of f = plan f.buffer f.size
 
 -- the length to which the log's work leads a file
-abbrev pub finalLengthOf : File → ℕ
-finalLengthOf f = lengthAfter (plan_of f) f.size
+abbrev pub final_length_of : File → ℕ
+final_length_of f = length_after (plan_of f) f.size
 
 -- a call takes f to g: an attach, or a step with any k
 pub data Call (f g : File) : Type 0 where

@@ -7,9 +7,9 @@
 -- Assumes nothing.
 use Rattle.std.specs.Prelude.{List, ◌≡◌, ℕ, ◌≤◌, ◌<◌, length, get_or}
 use Rattle.vhdx_walk.specs.Entries.{Sector}
-use Rattle.vhdx_log.specs.Work.{apply, sectorsPlanned}
+use Rattle.vhdx_log.specs.Work.{apply, sectors_planned}
 use Rattle.vhdx_steps.specs.Steps.{File, Named}
-use Rattle.vhdx_steps.specs.Calls.{plan_of, finalLengthOf, Call}
+use Rattle.vhdx_steps.specs.Calls.{plan_of, final_length_of, Call}
 
 -- what work that names these sectors and leads to the length m may leave of f where it does not come to its end. In as many of the
 -- sectors as it likes, come to or not, there may be any bytes; past the length too
@@ -25,13 +25,13 @@ pub record Lost (m : ℕ) (ss : List Sector) (f g : File) : Type 0 where
 
 -- what a power failure may leave of f, whichever call was on the way and however far it had come
 abbrev pub Failed : File → File → Type 0
-Failed f g = Lost (finalLengthOf f) (sectorsPlanned (plan_of f)) f g
+Failed f g = Lost (final_length_of f) (sectors_planned (plan_of f)) f g
 
 -- the same file in another buffer, which holds the final length
 pub record Reopened (f g : File) : Type 0 where
   pub same_size : g.size ≡ f.size
   pub same_bytes : (i : ℕ) → i < f.size → get_or g.buffer i 0 ≡ get_or f.buffer i 0
-  pub capacity : finalLengthOf f ≤ length g.buffer
+  pub capacity : final_length_of f ≤ length g.buffer
 
 -- of a file that came as o, was d when it was last flushed, and is f now
 pub data History (o : File) : File → File → Type 0 where

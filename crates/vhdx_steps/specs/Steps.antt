@@ -1,6 +1,6 @@
 -- The log's work on a file, step by step, and what a torn step leaves (document 01, "The log": "Work", and "Cuts").
 -- Assumes nothing.
-use Rattle.std.specs.Prelude.{List, [], ◌∷◌, map, ◌⊎◌, ◌≡◌, ℕ, ◌+◌, ◌≤◌, ◌<◌, leb, length, get_or}
+use Rattle.std.specs.Prelude.{List, [], ◌∷◌, map, ◌⊎◌, ◌≡◌, ℕ, ◌+◌, ◌≤◌, ◌<◌, nat_le, length, get_or}
 use Rattle.std.proofs.Math.Option.{Option, none, some}
 use Rattle.std.proofs.Math.ListN.{get_elem?}
 use Rattle.decision.specs.Refusal.{Outcome, refused, answered, check}
@@ -65,9 +65,9 @@ pub data Ran : List Step → File → File → Type 0 where
   next : {s : Step} {w : List Step} {f g : File} → Ran w (run s f) g → Ran (s ∷ w) f g
 
 -- the length that the log's work leads to, at 1 to 8 the given one
-abbrev pub lengthAfter : Plan → ℕ → ℕ
-lengthAfter (unplanned c) n = n
-lengthAfter (apply m ss) n = m
+abbrev pub length_after : Plan → ℕ → ℕ
+length_after (unplanned c) n = n
+length_after (apply m ss) n = m
 
 -- the steps of attach: none where it is refused before
 abbrev pub steps : Plan → List Step
@@ -78,7 +78,7 @@ steps (apply m ss) = grow m ∷ map write ss
 abbrev pub admitted : ℕ → Option Step → Outcome Step
 admitted size none = refused 21
 admitted size (some (grow m)) = answered (grow m)
-admitted size (some (write s)) = check (leb (end s) size) (refused 22) (answered (write s))
+admitted size (some (write s)) = check (nat_le (end s) size) (refused 22) (answered (write s))
 
 -- step k of the plan on a file of this size, or the refusal; 1 to 8 come first
 abbrev pub chosen : Plan → ℕ → ℕ → Outcome Step

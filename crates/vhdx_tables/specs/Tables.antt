@@ -6,9 +6,9 @@ use Rattle.decision.specs.Refusal.{Outcome, refused, answered, check, and_then}
 use Rattle.extent.specs.declared.Extent.{Extent}
 use Rattle.extent.specs.Extent.{nowhere, part}
 use Rattle.vhdx_facts.specs.declared.Facts.{Facts}
-use Rattle.vhdx_facts.specs.Ranges.{noFacts, sizesRule}
-use Rattle.vhdx_facts.specs.Geometry.{batRule}
-use Rattle.vhdx_locator.specs.Locator.{locatorRule}
+use Rattle.vhdx_facts.specs.Ranges.{no_facts, sizes_rule}
+use Rattle.vhdx_facts.specs.Geometry.{bat_rule}
+use Rattle.vhdx_locator.specs.Locator.{locator_rule}
 use Rattle.vhdx_region.specs.declared.Regions.{Regions}
 use Rattle.vhdx_region.specs.Region.{regions}
 use Rattle.vhdx_metadata.specs.declared.Items.{Items}
@@ -17,9 +17,9 @@ use Rattle.vhdx_tables.specs.declared.Reading.{Reading}
 
 -- "offset from the image's start": of an item at an offset of the region that starts here. "the locator's place is zero without a
 -- parent"
-abbrev pub locatorExtent : Bool → Extent → Extent → Extent
-locatorExtent false region item = nowhere
-locatorExtent true region item = record { offset = region.offset + item.offset; length = item.length }
+abbrev pub locator_extent : Bool → Extent → Extent → Extent
+locator_extent false region item = nowhere
+locator_extent true region item = record { offset = region.offset + item.offset; length = item.length }
 
 -- what the regions and the items say
 unfoldable pub facts_of : Regions → Items → Facts
@@ -33,26 +33,26 @@ facts_of g m =
       disk_id = m.disk_id;
       bat = g.bat;
       metadata = g.metadata;
-      locator = locatorExtent m.has_parent g.metadata m.locator;
+      locator = locator_extent m.has_parent g.metadata m.locator;
     }
 
 -- "Locator, where needed: .."
-unfoldable pub parentRule : List ℕ → Facts → Bool
-parentRule image f = not f.has_parent || locatorRule (part image f.locator)
+unfoldable pub parent_rule : List ℕ → Facts → Bool
+parent_rule image f = not f.has_parent || locator_rule (part image f.locator)
 
 -- 14: "an item's value is out of range"; 15: "BAT region too short"
 unfoldable pub judged : List ℕ → Facts → Outcome Facts
-judged image f = check (sizesRule f && parentRule image f) (refused 14) (check (batRule f) (refused 15) (answered f))
+judged image f = check (sizes_rule f && parent_rule image f) (refused 14) (check (bat_rule f) (refused 15) (answered f))
 
 -- 12 and 13, of the metadata region
-unfoldable pub withRegions : List ℕ → Regions → Outcome Facts
-withRegions image g = and_then (items (part image g.metadata)) (λ m. judged image (facts_of g m))
+unfoldable pub with_regions : List ℕ → Regions → Outcome Facts
+with_regions image g = and_then (items (part image g.metadata)) (λ m. judged image (facts_of g m))
 
 -- 9 to 11 come first
 unfoldable pub tables : List ℕ → Extent → Outcome Facts
-tables image log = and_then (regions image log) (withRegions image)
+tables image log = and_then (regions image log) (with_regions image)
 
 -- the answer: 0 stands for no refusal. "On a refusal every fact is zero"
 abbrev pub reading : Outcome Facts → Reading
-reading (refused c) = record { refusal = c; facts = noFacts }
+reading (refused c) = record { refusal = c; facts = no_facts }
 reading (answered f) = record { refusal = 0; facts = f }

@@ -1,9 +1,9 @@
 // The facts of a VHDX file whose log is applied, read from its tables, or the refusal: document 01's 9 to 15.
 ghost use Rattle.std.specs.Prelude.{◌&&◌, ◌≡◌, ◌+◌, ◌%◌, ◌≤◌, ◌<◌, ◌^◌, length as length_of};
-ghost use Rattle.decision.specs.Refusal.{refused as refusedBy, answered as answeredBy};
-ghost use Rattle.extent.specs.Extent.{MiB};
-ghost use Rattle.vhdx_facts.specs.Ranges.{sizesRule};
-ghost use Rattle.vhdx_tables.specs.Tables.{locatorExtent, facts_of, parentRule, judged, withRegions, tables, reading};
+ghost use Rattle.decision.specs.Refusal.{refused as refused_by, answered as answered_by};
+ghost use Rattle.extent.specs.Extent.{mib};
+ghost use Rattle.vhdx_facts.specs.Ranges.{sizes_rule};
+ghost use Rattle.vhdx_tables.specs.Tables.{locator_extent, facts_of, parent_rule, judged, with_regions, tables, reading};
 
 use extent::Extent;
 use vhdx_facts::{Facts, geometry, ranges};
@@ -20,7 +20,7 @@ pub struct Reading {
 
 // Of an image whose log is here.
 pub fn read(image: &[u8], log: Extent) -> Reading
-    requires { MiB ≤ length_of image.now }
+    requires { mib ≤ length_of image.now }
     ensures { result ≡ reading (tables image.now log) }
 {
     match vhdx_region::read(image, log) {
@@ -30,8 +30,8 @@ pub fn read(image: &[u8], log: Extent) -> Reading
 }
 
 fn with_regions(image: &[u8], regions: Regions) -> Reading
-    requires { (regions.metadata.offset + regions.metadata.length ≤ length_of image.now) × (regions.metadata.length % MiB ≡ 0) }
-    ensures { result ≡ reading (withRegions image.now regions) }
+    requires { (regions.metadata.offset + regions.metadata.length ≤ length_of image.now) × (regions.metadata.length % mib ≡ 0) }
+    ensures { result ≡ reading (with_regions image.now regions) }
 {
     let metadata = regions.metadata;
     match vhdx_metadata::read(extent::part(image, metadata)) {
@@ -65,7 +65,7 @@ fn facts(regions: Regions, items: Items) -> Facts
 // Where the locator, an item of the region, lies in the image.
 fn locator_extent(has_parent: bool, region: Extent, item: Extent) -> Extent
     requires { region.offset + item.offset < 2 ^ 64 }
-    ensures { result ≡ locatorExtent has_parent region item }
+    ensures { result ≡ locator_extent has_parent region item }
 {
     if has_parent {
         Extent {
@@ -95,7 +95,7 @@ fn judge(image: &[u8], facts: Facts) -> Reading
 // The sizes are in their ranges and the locator, where there is a parent, keeps its rule.
 fn values_keep_rules(image: &[u8], facts: Facts) -> bool
     requires { facts.locator.offset + facts.locator.length ≤ length_of image.now }
-    ensures { result ≡ (sizesRule facts && parentRule image.now facts) }
+    ensures { result ≡ (sizes_rule facts && parent_rule image.now facts) }
 {
     if !ranges::sizes_keep_rules(facts) {
         return false;
@@ -109,7 +109,7 @@ fn values_keep_rules(image: &[u8], facts: Facts) -> bool
 }
 
 fn refused(number: u64) -> Reading
-    ensures { result ≡ reading (refusedBy number) }
+    ensures { result ≡ reading (refused_by number) }
 {
     Reading {
         refusal: number,
@@ -118,7 +118,7 @@ fn refused(number: u64) -> Reading
 }
 
 fn answered(facts: Facts) -> Reading
-    ensures { result ≡ reading (answeredBy facts) }
+    ensures { result ≡ reading (answered_by facts) }
 {
     Reading { refusal: 0, facts }
 }

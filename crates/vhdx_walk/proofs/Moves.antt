@@ -8,42 +8,42 @@ use native.Mathlib.Omega.{arith}
 use lib.ListN.{length}
 use Rattle.vhdx_entry.specs.declared.ring.RingPos.{RingPos}
 use Rattle.vhdx_entry.specs.Ring.{ring, On}
-use Rattle.vhdx_entry.specs.Entry.{descriptor, descriptorStart, descriptorSectors, descriptorCount, isData, zeroLength, fileOffset, dataBefore, dataSector, behind}
+use Rattle.vhdx_entry.specs.Entry.{descriptor, descriptor_start, descriptor_sectors, descriptor_count, is_data_descriptor, zero_length, file_offset, data_before, data_sector, behind}
 use Rattle.vhdx_entry.proofs.Laws.{data-more}
 use Rattle.vhdx_walk.specs.declared.run.Source.TheVariants.{Zeros}
 use Rattle.vhdx_walk.specs.declared.run.Run.{Run}
 use Rattle.vhdx_walk.specs.declared.cursor.Cursor.{Cursor}
 use Rattle.vhdx_walk.specs.declared.cursor.Move.TheVariants.{Entry, Descriptor as Named}
 use Rattle.vhdx_walk.specs.Entries.{Descriptor, writes, zeros}
-use Rattle.vhdx_walk.specs.Bytes.{sectorBytes, descriptorOf, descriptorsFrom}
-use Rattle.vhdx_walk.specs.Cursor.{descriptorIn, Proper, descriptorsOn, Readable, AllReadable, Within, Placed, Onward}
+use Rattle.vhdx_walk.specs.Bytes.{sector_bytes, descriptor_of, descriptors_from}
+use Rattle.vhdx_walk.specs.Cursor.{descriptor_in, Proper, descriptors_on, Readable, AllReadable, Within, Placed, Onward}
 use Rattle.vhdx_walk.proofs.Parts.{data-rank, descriptors-fit, zeros-whole, same_length, size-within}
 
 -- ---- the descriptors that are left
 
-pub on-descriptor : (log : List ℕ) (s i left : ℕ) → 0 < left → i < descriptorCount (ring log s) →
-    descriptorsOn log s i left ≡ descriptorOf (ring log s) i ∷ descriptorsOn log s (i + 1) left
-unfolding descriptorsOn descriptorsFrom
+pub on-descriptor : (log : List ℕ) (s i left : ℕ) → 0 < left → i < descriptor_count (ring log s) →
+    descriptors_on log s i left ≡ descriptor_of (ring log s) i ∷ descriptors_on log s (i + 1) left
+unfolding descriptors_on descriptors_from
 on-descriptor log s i zero p h = absurd (omega arith)
 on-descriptor log s i (suc k) p h =
-    ap (λ (m : ℕ). descriptorsFrom (ring log s) i m ++ descriptorsOn log (behind log s) 0 k)
-    {x = descriptorCount (ring log s) - i}
-    {y = suc (descriptorCount (ring log s) - (i + 1))}
+    ap (λ (m : ℕ). descriptors_from (ring log s) i m ++ descriptors_on log (behind log s) 0 k)
+    {x = descriptor_count (ring log s) - i}
+    {y = suc (descriptor_count (ring log s) - (i + 1))}
     (omega arith)
 
-pub on-entry : (log : List ℕ) (s i left : ℕ) → 0 < left → descriptorCount (ring log s) ≤ i → descriptorsOn log s i left ≡ descriptorsOn log (behind log s) 0 (left - 1)
-unfolding descriptorsOn descriptorsFrom
+pub on-entry : (log : List ℕ) (s i left : ℕ) → 0 < left → descriptor_count (ring log s) ≤ i → descriptors_on log s i left ≡ descriptors_on log (behind log s) 0 (left - 1)
+unfolding descriptors_on descriptors_from
 on-entry log s i zero p h = absurd (omega arith)
 on-entry log s i (suc k) p h =
-    ap (λ (m : ℕ). descriptorsFrom (ring log s) i m ++ descriptorsOn log (behind log s) 0 k)
-    {x = descriptorCount (ring log s) - i}
+    ap (λ (m : ℕ). descriptors_from (ring log s) i m ++ descriptors_on log (behind log s) 0 k)
+    {x = descriptor_count (ring log s) - i}
     {y = 0}
     (omega arith)
-    ∙ ap (descriptorsOn log (behind log s) 0) {x = k} {y = suc k - 1} (omega arith)
+    ∙ ap (descriptors_on log (behind log s) 0) {x = k} {y = suc k - 1} (omega arith)
 
-pub on-done : (log : List ℕ) (s i left : ℕ) → left ≡ 0 → descriptorsOn log s i left ≡ []
-unfolding descriptorsOn
-on-done log s i left h = ap (descriptorsOn log s i) h
+pub on-done : (log : List ℕ) (s i left : ℕ) → left ≡ 0 → descriptors_on log s i left ≡ []
+unfolding descriptors_on
+on-done log s i left h = ap (descriptors_on log s i) h
 
 pub first-readable : (log : List ℕ) (s left : ℕ) → 0 < left → AllReadable log s left → Readable (ring log s)
 unfolding AllReadable
@@ -64,14 +64,14 @@ module _ (log : List ℕ) (c : Cursor) (placed : Placed log c) (more : 0 < c.lef
   pub reads : Readable (ring log c.pos.at)
   reads = first-readable log c.pos.at c.left more placed.readable
 
-  start_fits : (i : ℕ) → i ≤ descriptorCount (ring log c.pos.at) → descriptorStart i ≤ length log
+  start_fits : (i : ℕ) → i ≤ descriptor_count (ring log c.pos.at) → descriptor_start i ≤ length log
   start_fits i b = omega (arith, descriptors-fit (ring log c.pos.at) reads i b, same_length log c.pos stands.on)
 
-  pub to-entry : (p : RingPos) → On log p → p.at ≡ behind log c.pos.at → descriptorCount (ring log c.pos.at) ≤ c.index →
+  pub to-entry : (p : RingPos) → On log p → p.at ≡ behind log c.pos.at → descriptor_count (ring log c.pos.at) ≤ c.index →
       Onward log c (Entry (record { pos = p; left = c.left - 1; index = 0; «data» = 0 }))
-  unfolding dataBefore
+  unfolding data_before
   to-entry p on at done = (
-    on-entry log c.pos.at c.index c.left more done ∙ ap (λ (s : ℕ). descriptorsOn log s 0 (c.left - 1)) (sym at),
+    on-entry log c.pos.at c.index c.left more done ∙ ap (λ (s : ℕ). descriptors_on log s 0 (c.left - 1)) (sym at),
     record {
       here = λ _. record { on = on; within = omega arith; rank = refl };
       readable = subst (λ (s : ℕ). AllReadable log s (c.left - 1)) (sym at) (rest-readable log c.pos.at c.left more placed.readable);
@@ -79,15 +79,15 @@ module _ (log : List ℕ) (c : Cursor) (placed : Placed log c) (more : 0 < c.lef
     omega arith,
   )
 
-  module _ (inside : c.index < descriptorCount (ring log c.pos.at)) where
-    pub descriptor-fits : descriptorStart (c.index + 1) ≤ length log
+  module _ (inside : c.index < descriptor_count (ring log c.pos.at)) where
+    pub descriptor-fits : descriptor_start (c.index + 1) ≤ length log
     descriptor-fits = start_fits (c.index + 1) (omega arith)
 
-    pub rank-fits : isData (descriptor (ring log c.pos.at) c.index) ≡ true → descriptorSectors (descriptorCount (ring log c.pos.at)) + c.«data» < c.pos.len
+    pub rank-fits : is_data_descriptor (descriptor (ring log c.pos.at) c.index) ≡ true → descriptor_sectors (descriptor_count (ring log c.pos.at)) + c.«data» < c.pos.len
     rank-fits h =
         omega (arith, stands.rank, size-within log c.pos stands.on reads, data-rank (ring log c.pos.at) c.index inside h)
 
-    moved : (n : ℕ) → n ≡ c.«data» + cond (isData (descriptor (ring log c.pos.at) c.index)) 1 0 →
+    moved : (n : ℕ) → n ≡ c.«data» + cond (is_data_descriptor (descriptor (ring log c.pos.at) c.index)) 1 0 →
         Placed log (record { pos = c.pos; left = c.left; index = c.index + 1; «data» = n })
     moved n e =
         record {
@@ -100,32 +100,32 @@ module _ (log : List ℕ) (c : Cursor) (placed : Placed log c) (more : 0 < c.lef
           readable = placed.readable;
         }
 
-    pub past-data : (run : Run) → isData (descriptor (ring log c.pos.at) c.index) ≡ true →
-        descriptorIn log run ≡ writes (fileOffset (descriptor (ring log c.pos.at) c.index)) (sectorBytes (descriptor (ring log c.pos.at) c.index) (dataSector (ring log c.pos.at) c.«data»)) →
+    pub past-data : (run : Run) → is_data_descriptor (descriptor (ring log c.pos.at) c.index) ≡ true →
+        descriptor_in log run ≡ writes (file_offset (descriptor (ring log c.pos.at) c.index)) (sector_bytes (descriptor (ring log c.pos.at) c.index) (data_sector (ring log c.pos.at) c.«data»)) →
         Proper log run →
         Onward log c (Named run (record { pos = c.pos; left = c.left; index = c.index + 1; «data» = c.«data» + 1 }))
-    unfolding descriptorOf
+    unfolding descriptor_of
     past-data run h e proper =
         let r = ring log c.pos.at in
-        let same : descriptorOf r c.index ≡ writes (fileOffset (descriptor r c.index)) (sectorBytes (descriptor r c.index) (dataSector r c.«data»)) =
+        let same : descriptor_of r c.index ≡ writes (file_offset (descriptor r c.index)) (sector_bytes (descriptor r c.index) (data_sector r c.«data»)) =
         rw (h, ← stands.rank) in (
           on-descriptor log c.pos.at c.index c.left more inside
-              ∙ ap (λ (d : Descriptor). d ∷ descriptorsOn log c.pos.at (c.index + 1) c.left) (same ∙ sym e),
+              ∙ ap (λ (d : Descriptor). d ∷ descriptors_on log c.pos.at (c.index + 1) c.left) (same ∙ sym e),
           moved (c.«data» + 1) (rw h),
           refl,
           proper,
         )
 
-    pub past-zeros : (offset n : ℕ) → isData (descriptor (ring log c.pos.at) c.index) ≡ false →
-        offset ≡ fileOffset (descriptor (ring log c.pos.at) c.index) →
-        n ≡ zeroLength (descriptor (ring log c.pos.at) c.index) →
+    pub past-zeros : (offset n : ℕ) → is_data_descriptor (descriptor (ring log c.pos.at) c.index) ≡ false →
+        offset ≡ file_offset (descriptor (ring log c.pos.at) c.index) →
+        n ≡ zero_length (descriptor (ring log c.pos.at) c.index) →
         Onward log c (Named (record { offset = offset; length = n; source = Zeros }) (record { pos = c.pos; left = c.left; index = c.index + 1; «data» = c.«data» }))
-    unfolding descriptorOf
+    unfolding descriptor_of
     past-zeros offset n h p q =
         let r = ring log c.pos.at in
-        let same : descriptorOf r c.index ≡ zeros offset n = rw (h, p, q) in (
+        let same : descriptor_of r c.index ≡ zeros offset n = rw (h, p, q) in (
           on-descriptor log c.pos.at c.index c.left more inside
-              ∙ ap (λ (d : Descriptor). d ∷ descriptorsOn log c.pos.at (c.index + 1) c.left) same,
+              ∙ ap (λ (d : Descriptor). d ∷ descriptors_on log c.pos.at (c.index + 1) c.left) same,
           moved c.«data» (rw h (omega arith)),
           refl,
           ap (λ (k : ℕ). k % 4096) q ∙ zeros-whole r reads c.index inside h,

@@ -1,7 +1,7 @@
 // The walk over a sequence's descriptors: a cursor is handed in, and handed back moved.
 ghost use Rattle.std.specs.Prelude.{◌≡◌, ◌<◌};
-ghost use Rattle.vhdx_entry.specs.Ring.{ring as ringOf};
-ghost use Rattle.vhdx_entry.specs.Entry.{descriptorCount};
+ghost use Rattle.vhdx_entry.specs.Ring.{ring as ring_of};
+ghost use Rattle.vhdx_entry.specs.Entry.{descriptor_count};
 ghost use Rattle.vhdx_walk.specs.Cursor.{Placed, Onward};
 
 use crate::run::{Run, Source};
@@ -51,7 +51,7 @@ impl Cursor {
 
     // The next descriptor of the entry, which has `count` of them.
     fn descriptor(self, log: &[u8], count: usize) -> Move
-        requires { Placed log.now self × (0 < self.left) × (count ≡ descriptorCount (ringOf log.now self.pos.at)) × (count < 4294967296) × (self.index < count) }
+        requires { Placed log.now self × (0 < self.left) × (count ≡ descriptor_count (ring_of log.now self.pos.at)) × (count < 4294967296) × (self.index < count) }
         ensures { Onward log.now self result }
     {
         let pos = self.pos;

@@ -8,9 +8,9 @@ pub mod run;
 
 ghost use Rattle.std.specs.Prelude.{◌≡◌, ◌+◌, ◌*◌, ◌/◌, ◌≤◌, ◌<◌, drop};
 ghost use Rattle.std.proofs.Math.ListN.{get_elem?};
-ghost use Rattle.vhdx_walk.specs.Entries.{furthest, lengthLimit};
-ghost use Rattle.vhdx_walk.specs.Cursor.{descriptorsLeft, Placed};
-ghost use Rattle.vhdx_walk.specs.Walk.{sectorsLeft, next_of, HeldNext, Ready, Settled, walkFrom, Following};
+ghost use Rattle.vhdx_walk.specs.Entries.{furthest, length_limit};
+ghost use Rattle.vhdx_walk.specs.Cursor.{descriptors_left, Placed};
+ghost use Rattle.vhdx_walk.specs.Walk.{sectors_left, next_of, HeldNext, Ready, Settled, walk_from, Following};
 
 use cursor::{Cursor, Move};
 use run::{Run, Source};
@@ -47,7 +47,7 @@ impl Walk {
     pub fn forward(self, log: &[u8], k: u64) -> Walk
         requires { Ready log.now self }
         ensures ready { Ready log.now result }
-        ensures result_value { (sectorsLeft log.now result ≡ drop k (sectorsLeft log.now self)) × Settled log.now result }
+        ensures result_value { (sectors_left log.now result ≡ drop k (sectors_left log.now self)) × Settled log.now result }
     {
         let mut walk = self;
         let mut left = k;
@@ -69,7 +69,7 @@ impl Walk {
     fn within(self, log: &[u8], j: u64) -> Walk
         requires { Ready log.now self × (j < self.run.length / 4096) }
         ensures ready { Ready log.now result }
-        ensures result_value { (sectorsLeft log.now result ≡ drop j (sectorsLeft log.now self)) × (4096 ≤ result.run.length) }
+        ensures result_value { (sectors_left log.now result ≡ drop j (sectors_left log.now self)) × (4096 ≤ result.run.length) }
     {
         let run = self.run;
         let source = run.source;
@@ -87,7 +87,7 @@ impl Walk {
     // The sector that a walk is at.
     pub fn current(self, log: &[u8]) -> Next
         requires { Ready log.now self × Settled log.now self }
-        ensures result_value { next_of log.now result ≡ get_elem? (sectorsLeft log.now self) 0 }
+        ensures result_value { next_of log.now result ≡ get_elem? (sectors_left log.now self) 0 }
         ensures held_next { HeldNext log.now result }
     {
         let run = self.run;
@@ -105,7 +105,7 @@ impl Walk {
     // Sector number k of those that are still to come.
     pub fn nth(self, log: &[u8], k: u64) -> Next
         requires { Ready log.now self }
-        ensures result_value { next_of log.now result ≡ get_elem? (sectorsLeft log.now self) k }
+        ensures result_value { next_of log.now result ≡ get_elem? (sectors_left log.now self) k }
         ensures held_next { HeldNext log.now result }
     {
         let there = self.forward(log, k);
@@ -115,7 +115,7 @@ impl Walk {
 
 // The walk that is at a cursor, with no run before it.
 pub fn from(cursor: Cursor) -> Walk
-    ensures { result ≡ walkFrom cursor }
+    ensures { result ≡ walk_from cursor }
 {
     Walk {
         run: Run {
@@ -129,7 +129,7 @@ pub fn from(cursor: Cursor) -> Walk
 
 // One move of the cursor.
 fn load(log: &[u8], cursor: Cursor) -> Loaded
-    requires { Placed log.now cursor × (furthest (descriptorsLeft log.now cursor) ≤ lengthLimit) }
+    requires { Placed log.now cursor × (furthest (descriptors_left log.now cursor) ≤ length_limit) }
     ensures { Following log.now cursor result }
 {
     match cursor.next(log) {

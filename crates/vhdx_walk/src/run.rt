@@ -1,10 +1,10 @@
 // A descriptor's sectors as a run: one behind the other from an offset in the file on, all with the same bytes.
 ghost use Rattle.std.specs.Prelude.{◌≡◌, ◌+◌, ◌≤◌, ◌<◌, length};
-ghost use Rattle.vhdx_entry.specs.Ring.{ring as ringOf, On};
-ghost use Rattle.vhdx_entry.specs.Entry.{descriptor as descriptorBytes, descriptorStart, descriptorSectors, descriptorCount, fileOffset, dataSector};
+ghost use Rattle.vhdx_entry.specs.Ring.{ring as ring_of, On};
+ghost use Rattle.vhdx_entry.specs.Entry.{descriptor as descriptor_bytes, descriptor_start, descriptor_sectors, descriptor_count, file_offset, data_sector};
 ghost use Rattle.vhdx_walk.specs.Entries.{writes};
-ghost use Rattle.vhdx_walk.specs.Bytes.{sectorBytes};
-ghost use Rattle.vhdx_walk.specs.Cursor.{descriptorIn, Proper};
+ghost use Rattle.vhdx_walk.specs.Bytes.{sector_bytes};
+ghost use Rattle.vhdx_walk.specs.Cursor.{descriptor_in, Proper};
 
 use vhdx_entry::ring::RingPos;
 use vhdx_entry::{descriptor, ring};
@@ -28,8 +28,8 @@ pub struct Run {
 // The run of data descriptor `index` of the entry at a position that has `count` descriptors; `rank` data descriptors stand
 // before it.
 pub fn of_data(log: &[u8], pos: RingPos, count: usize, index: usize, rank: usize) -> Run
-    requires { On log.now pos × (count ≡ descriptorCount (ringOf log.now pos.at)) × (count < 4294967296) × (descriptorStart (index + 1) ≤ length log.now) × (descriptorSectors count + rank < pos.len) }
-    ensures result_value { descriptorIn log.now result ≡ writes (fileOffset (descriptorBytes (ringOf log.now pos.at) index)) (sectorBytes (descriptorBytes (ringOf log.now pos.at) index) (dataSector (ringOf log.now pos.at) rank)) }
+    requires { On log.now pos × (count ≡ descriptor_count (ring_of log.now pos.at)) × (count < 4294967296) × (descriptor_start (index + 1) ≤ length log.now) × (descriptor_sectors count + rank < pos.len) }
+    ensures result_value { descriptor_in log.now result ≡ writes (file_offset (descriptor_bytes (ring_of log.now pos.at) index)) (sector_bytes (descriptor_bytes (ring_of log.now pos.at) index) (data_sector (ring_of log.now pos.at) rank)) }
     ensures proper { Proper log.now result }
 {
     let place = pos.offset(64 + 32 * index);

@@ -4,10 +4,10 @@ use mathlib.Core.Path.{◌≡◌, refl, sym, subst}
 use mathlib.Core.List.{List}
 use Prim.Native.Nat.{ℕ}
 use lib.ListN.{get_elem?}
-use Rattle.vhdx_walk.specs.Walk.{next_of, sectorsLeft, Ready}
+use Rattle.vhdx_walk.specs.Walk.{next_of, sectors_left, Ready}
 use Rattle.vhdx_walk.specs.declared.Next.TheVariants.{End}
 use Rattle.vhdx_log.specs.Plan.{plan}
-use Rattle.vhdx_log.specs.Answers.{logOf}
+use Rattle.vhdx_log.specs.Answers.{log_of}
 use Rattle.bench_api.proofs.Laws.{refused-sectors, applied-ready, applied-sectors, no-sector, zero-sector, data-sector}
 use borrow.Author.Rules.{rules}
 use Rattle.bench_api.proofs.shrunvaki_bench_sector.Statement.{statement}
@@ -18,7 +18,7 @@ nth-requires c κs =
     let a = c.before.before.before.before.before.before.before.args in
     let r = c.before.before.before.before.before.plan.result in
     let p = c.before.before.before.before.before.plan.ensures in
-    let log = logOf a.buffer.now a.length in
+    let log = log_of a.buffer.now a.length in
     let defined = plan a.buffer.now a.length in
     subst (λ (l : List ℕ). Ready l c.before.from.result) (sym c.log.ensures) (applied-ready log defined r p.0 p.1.1 c.before.before.before.work.given.1 c.before.from.ensures)
 
@@ -27,7 +27,7 @@ returns c =
     let a = c.before.before.before.before.args in
     let r = c.before.before.plan.result in
     let p = c.before.before.plan.ensures in
-    let log = logOf a.buffer.now a.length in
+    let log = log_of a.buffer.now a.length in
     let defined = plan a.buffer.now a.length in
     no-sector {n = End} (refused-sectors log defined r p.0 p.1.1 a.k c.enum_told.given.1) a.answer.now refl
 
@@ -36,9 +36,9 @@ returns-2 c =
     let a = c.before.before.before.before.before.before.before.before.before.before.args in
     let r = c.before.before.before.before.before.before.before.before.plan.result in
     let p = c.before.before.before.before.before.before.before.before.plan.ensures in
-    let log = logOf a.buffer.now a.length in
+    let log = log_of a.buffer.now a.length in
     let defined = plan a.buffer.now a.length in
-    let there = subst (λ (l : List ℕ). next_of l c.before.before.nth.result ≡ get_elem? (sectorsLeft l c.before.before.before.before.from.result) a.k) c.before.before.before.log.ensures c.before.before.nth.ensures.0 in
+    let there = subst (λ (l : List ℕ). next_of l c.before.before.nth.result ≡ get_elem? (sectors_left l c.before.before.before.before.from.result) a.k) c.before.before.before.log.ensures c.before.before.nth.ensures.0 in
     let is = applied-sectors log defined r p.0 p.1.1 a.k c.before.before.before.before.before.before.work.given.1 c.before.before.before.before.from.ensures there in
     no-sector is a.answer.now c.enum-told2.given.1
 
@@ -47,9 +47,9 @@ returns-3 c =
     let a = c.before.before.before.before.before.before.before.before.before.before.before.before.before.args in
     let r = c.before.before.before.before.before.before.before.before.before.before.before.plan.result in
     let p = c.before.before.before.before.before.before.before.before.before.before.before.plan.ensures in
-    let log = logOf a.buffer.now a.length in
+    let log = log_of a.buffer.now a.length in
     let defined = plan a.buffer.now a.length in
-    let there = subst (λ (l : List ℕ). next_of l c.before.before.before.before.before.nth.result ≡ get_elem? (sectorsLeft l c.before.before.before.before.before.before.before.from.result) a.k) c.before.before.before.before.before.before.log.ensures c.before.before.before.before.before.nth.ensures.0 in
+    let there = subst (λ (l : List ℕ). next_of l c.before.before.before.before.before.nth.result ≡ get_elem? (sectors_left l c.before.before.before.before.before.before.before.from.result) a.k) c.before.before.before.before.before.before.log.ensures c.before.before.before.before.before.nth.ensures.0 in
     let is = applied-sectors log defined r p.0 p.1.1 a.k c.before.before.before.before.before.before.before.before.before.work.given.1 c.before.before.before.before.before.before.before.from.ensures there in
     zero-sector is a.answer.now c.before.before.before.sector.given.1 c.enum-told3.given.1
 
@@ -58,9 +58,9 @@ returns-4 c =
     let a = c.before.before.before.before.before.before.before.before.before.before.before.before.before.before.args in
     let r = c.before.before.before.before.before.before.before.before.before.before.before.before.plan.result in
     let p = c.before.before.before.before.before.before.before.before.before.before.before.before.plan.ensures in
-    let log = logOf a.buffer.now a.length in
+    let log = log_of a.buffer.now a.length in
     let defined = plan a.buffer.now a.length in
-    let there = subst (λ (l : List ℕ). next_of l c.before.before.before.before.before.before.nth.result ≡ get_elem? (sectorsLeft l c.before.before.before.before.before.before.before.before.from.result) a.k) c.before.before.before.before.before.before.before.log.ensures c.before.before.before.before.before.before.nth.ensures.0 in
+    let there = subst (λ (l : List ℕ). next_of l c.before.before.before.before.before.before.nth.result ≡ get_elem? (sectors_left l c.before.before.before.before.before.before.before.before.from.result) a.k) c.before.before.before.before.before.before.before.log.ensures c.before.before.before.before.before.before.nth.ensures.0 in
     let is = applied-sectors log defined r p.0 p.1.1 a.k c.before.before.before.before.before.before.before.before.before.before.work.given.1 c.before.before.before.before.before.before.before.before.from.ensures there in
     data-sector is a.answer.now c.before.before.before.before.sector.given.1 c.before.source.given.1
 

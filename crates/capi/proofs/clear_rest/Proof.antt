@@ -4,21 +4,21 @@ use mathlib.Core.Path.{◌≡◌, refl, sym, ◌∙◌}
 use Prim.Native.Nat.{◌≤◌, ◌-◌}
 use native.Mathlib.Omega.{arith}
 use lib.ListN.{replicate}
-use Rattle.vhdx_slots.specs.Slots.{inSlots}
-use Rattle.capi.specs.Answers.{restCleared}
+use Rattle.vhdx_slots.specs.Slots.{in_slots}
+use Rattle.capi.specs.Answers.{rest_cleared}
 use Rattle.capi.proofs.Slots.{zeros-more, zeros-end}
 use borrow.Author.Rules.{rules}
 use Rattle.capi.proofs.clear_rest.Statement.{statement}
 use Rattle.capi.proofs.clear_rest.Tie as tie
 
 abbrev invariant-loop : tie.invariant-loop
-invariant-loop answer₀ i₀ answer i = (i ≤ 32) × (inSlots i (replicate (32 - i) 0) answer ≡ restCleared answer₀)
+invariant-loop answer₀ i₀ answer i = (i ≤ 32) × (in_slots i (replicate (32 - i) 0) answer ≡ rest_cleared answer₀)
 
 abbrev decreases-loop : tie.decreases-loop
 decreases-loop answer₀ i₀ answer i = 32 - i
 
 loop-holds : tie.Need-loop-init invariant-loop decreases-loop
-unfolding restCleared
+unfolding rest_cleared
 loop-holds c = (omega arith, refl)
 
 mul-answer : tie.Need-overflow-mul-answer invariant-loop decreases-loop

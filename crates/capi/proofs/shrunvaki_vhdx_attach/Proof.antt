@@ -2,7 +2,7 @@
 -- Assumes nothing.
 use mathlib.Core.Path.{ap, ◌∙◌}
 use Rattle.vhdx.specs.declared.Attached.{Attached}
-use Rattle.capi.specs.Answers.{restCleared, attachedIn}
+use Rattle.capi.specs.Answers.{rest_cleared, attached_in}
 use Rattle.capi.proofs.Slots.{all_slots}
 use borrow.Author.Rules.{rules}
 use Rattle.capi.proofs.shrunvaki_vhdx_attach.Statement.{statement}
@@ -16,7 +16,7 @@ returns c =
       ap (λ (x : Attached). x.refusal) a.attach.ensures.0,
       (
         a.attach.ensures.1,
-        c.clear-rest.ensures ∙ ap restCleared w.write.ensures ∙ all_slots a.attach.result s ∙ ap (λ (x : Attached). attachedIn x s) a.attach.ensures.0,
+        c.clear-rest.ensures ∙ ap rest_cleared w.write.ensures ∙ all_slots a.attach.result s ∙ ap (λ (x : Attached). attached_in x s) a.attach.ensures.0,
       ),
     )
 

@@ -2,14 +2,14 @@
 -- Assumes nothing.
 use mathlib.Core.Path.{ap}
 use Rattle.vhdx_close_steps.specs.declared.Closed.{Closed}
-use Rattle.vhdx_slots.specs.Slots.{inSlots}
+use Rattle.vhdx_slots.specs.Slots.{in_slots}
 use Rattle.capi.specs.Answers.{closed_in}
 use borrow.Author.Rules.{rules}
 use Rattle.capi.proofs.shrunvaki_vhdx_close.Statement.{statement}
 use Rattle.capi.proofs.shrunvaki_vhdx_close.Tie as tie
 
 returns : tie.Need-returns
-unfolding inSlots
+unfolding in_slots
 returns c =
     let a = c.before.before in
     let s = a.before.before.before.args.answer.now in (

@@ -2,7 +2,7 @@
 -- Assumes nothing.
 use mathlib.Core.Path.{ap, ◌∙◌}
 use Rattle.vhdx_pieces_calls.specs.declared.Request.{Request}
-use Rattle.capi.specs.Answers.{requestIn, refusedBy}
+use Rattle.capi.specs.Answers.{request_in, refused_by}
 use borrow.Author.Rules.{rules}
 use Rattle.capi.proofs.shrunvaki_vhdx_pieces_next.Statement.{statement}
 use Rattle.capi.proofs.shrunvaki_vhdx_pieces_next.Tie as tie
@@ -11,12 +11,12 @@ returns : tie.Need-returns
 returns c =
     let told = c.before.before.next.ensures in
     let s = c.before.before.before.before.before.args.answer.now in (
-      c.put-request.ensures.0 ∙ ap refusedBy told.0,
+      c.put-request.ensures.0 ∙ ap refused_by told.0,
       (
         told.1.0,
         (
           told.1.1,
-          c.put-request.ensures.1 ∙ ap (λ (r : Request). requestIn r s) told.0,
+          c.put-request.ensures.1 ∙ ap (λ (r : Request). request_in r s) told.0,
         ),
       ),
     )

@@ -2,17 +2,17 @@
 -- Assumes nothing.
 use mathlib.Core.Path.{ap}
 use Rattle.vhdx.specs.declared.Planned.{Planned}
-use Rattle.vhdx_slots.specs.Slots.{inSlots}
-use Rattle.capi.specs.Answers.{plannedIn}
+use Rattle.vhdx_slots.specs.Slots.{in_slots}
+use Rattle.capi.specs.Answers.{planned_in}
 use borrow.Author.Rules.{rules}
 use Rattle.capi.proofs.shrunvaki_vhdx_plan.Statement.{statement}
 use Rattle.capi.proofs.shrunvaki_vhdx_plan.Tie as tie
 
 returns : tie.Need-returns
-unfolding inSlots
+unfolding in_slots
 returns c =
     let s = c.before.before.args.answer.now in
-    (ap (λ (x : Planned). x.refusal) c.plan.ensures, ap (λ (x : Planned). plannedIn x s) c.plan.ensures)
+    (ap (λ (x : Planned). x.refusal) c.plan.ensures, ap (λ (x : Planned). planned_in x s) c.plan.ensures)
 
 pub shrunvaki-vhdx-plan-spec : {M : Type 1} → statement M
 shrunvaki-vhdx-plan-spec =

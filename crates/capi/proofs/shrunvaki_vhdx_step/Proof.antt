@@ -2,19 +2,19 @@
 -- Assumes nothing.
 use mathlib.Core.Path.{ap}
 use Rattle.vhdx_steps.specs.declared.Stepped.{Stepped}
-use Rattle.vhdx_slots.specs.Slots.{inSlots}
-use Rattle.capi.specs.Answers.{steppedIn}
+use Rattle.vhdx_slots.specs.Slots.{in_slots}
+use Rattle.capi.specs.Answers.{stepped_in}
 use borrow.Author.Rules.{rules}
 use Rattle.capi.proofs.shrunvaki_vhdx_step.Statement.{statement}
 use Rattle.capi.proofs.shrunvaki_vhdx_step.Tie as tie
 
 returns : tie.Need-returns
-unfolding inSlots
+unfolding in_slots
 returns c =
     let a = c.before.before in
     let s = a.before.before.before.args.answer.now in (
       ap (λ (x : Stepped). x.refusal) a.step.ensures.0,
-      (a.step.ensures.1, ap (λ (x : Stepped). steppedIn x s) a.step.ensures.0),
+      (a.step.ensures.1, ap (λ (x : Stepped). stepped_in x s) a.step.ensures.0),
     )
 
 pub shrunvaki-vhdx-step-spec : {M : Type 1} → statement M

@@ -11,16 +11,16 @@ use lib.ListN.{length}
 use Rattle.decision.specs.Bounded.{first}
 use Rattle.decision.proofs.Laws.{first_more, first-end, first-hit}
 use Rattle.field.specs.Fields.{number}
-use Rattle.guid.specs.Stored.{identifierIn, row_of}
+use Rattle.guid.specs.Stored.{identifier_in, row_of}
 use borrow.Author.Rules.{rules}
 use Rattle.guid.proofs.row.Statement.{statement}
 use Rattle.guid.proofs.row.Tie as tie
 
-abbrev isRow : List (List ℕ) → ℕ → ℕ → Bool
-isRow table id k = eqb (identifierIn table k) id
+abbrev is_row : List (List ℕ) → ℕ → ℕ → Bool
+is_row table id k = eqb (identifier_in table k) id
 
 abbrev invariant-loop : tie.invariant-loop
-invariant-loop table id k₀ k = (k ≤ length table) × (first k (isRow table (number id)) ≡ none)
+invariant-loop table id k₀ k = (k ≤ length table) × (first k (is_row table (number id)) ≡ none)
 
 abbrev decreases-loop : tie.decreases-loop
 decreases-loop table id k₀ k = length table - k
@@ -34,7 +34,7 @@ unfolding row_of
 returns c =
     let l = c.before.before.before in
     let a = l.before.args in
-    let f = isRow a.table.now (number a.id) in
+    let f = is_row a.table.now (number a.id) in
     let hit : f l.loop.k ≡ true = sym c.before.is_row.ensures ∙ c.if1.true in
     sym (first-hit f l.loop.k (length a.table.now) (omega arith) l.loop.invariant.1 hit)
 
@@ -42,7 +42,7 @@ loop-again : tie.Need-loop-preserved invariant-loop decreases-loop
 loop-again c =
     let l = c.before.before.before in
     let a = l.before.args in
-    let f = isRow a.table.now (number a.id) in
+    let f = is_row a.table.now (number a.id) in
     let miss : f l.loop.k ≡ false = sym c.before.is_row.ensures ∙ c.if1.false in
     (omega arith, first_more f l.loop.k l.loop.invariant.1 miss)
 
@@ -51,7 +51,7 @@ unfolding row_of
 returns-2 c =
     let l = c.before in
     let a = l.before.args in
-    sym (first-end (isRow a.table.now (number a.id)) l.loop.k (length a.table.now) l.loop.invariant.0 (omega arith) l.loop.invariant.1)
+    sym (first-end (is_row a.table.now (number a.id)) l.loop.k (length a.table.now) l.loop.invariant.0 (omega arith) l.loop.invariant.1)
 
 pub row-spec : {M : Type 1} → statement M
 row-spec =

@@ -3,7 +3,7 @@
 use mathlib.Core.Path.{sym, ap, subst}
 use Rattle.vhdx_pieces.specs.declared.Turn.{Turn}
 use Rattle.vhdx_pieces.specs.Machines.{Kept}
-use Rattle.list_writes.specs.Driver.{asksOf, Toward}
+use Rattle.list_writes.specs.Driver.{asks_of, Toward}
 use Rattle.list_writes.proofs.Driving.{stays}
 use borrow.Author.Rules.{rules}
 use Rattle.list_writes.proofs.turn.Statement.{statement}
@@ -28,10 +28,10 @@ returns-3 : tie.Need-returns-3
 returns-3 c = subst (λ (t : Turn). Toward t c.hand-in3.result.turn) (sym c.before.before.before.turn3.given.1) c.hand-in3.ensures
 
 returns-4 : tie.Need-returns-4
-returns-4 c = stays c.before.before.before.args.state.turn c.before.before.before.requires (ap asksOf c.enum_told.given.1)
+returns-4 c = stays c.before.before.before.args.state.turn c.before.before.before.requires (ap asks_of c.enum_told.given.1)
 
 returns-5 : tie.Need-returns-5
-returns-5 c = stays c.before.before.before.args.state.turn c.before.before.before.requires (ap asksOf c.enum-told2.given.1)
+returns-5 c = stays c.before.before.before.args.state.turn c.before.before.before.requires (ap asks_of c.enum-told2.given.1)
 
 pub turn_spec : {M : Type 1} → statement M
 turn_spec =

@@ -1,7 +1,7 @@
 -- `vhdx::attach` meets its contract: a refusal changes nothing, and planned work is done and its image read.
 -- Assumes nothing.
 use mathlib.Core.Path.{◌∙◌}
-use Rattle.vhdx_replay.proofs.Done.{plan-refused, work-planned, holds-first, fits}
+use Rattle.vhdx_replay.proofs.Done.{plan-refused, work-planned, holds_first, fits}
 use Rattle.vhdx.proofs.Attaching.{refused-answer, refused-buffer, answer, buffer}
 use borrow.Author.Rules.{rules}
 use Rattle.vhdx.proofs.attach.Statement.{statement}
@@ -42,7 +42,7 @@ read-requires c κs =
     let r = w.before.before in
     let a = r.before.before.before.args in
     let p = work-planned a.buffer.now a.length r.plan.result r.plan.ensures w.work.given.1 l.log-extent.ensures in (
-      holds-first a.buffer.now a.length l.log-extent.result _ p,
+      holds_first a.buffer.now a.length l.log-extent.result _ p,
       fits a.buffer.now a.length l.log-extent.result _ p d.first-steps.new.0 d.first-steps.ensures,
     )
 

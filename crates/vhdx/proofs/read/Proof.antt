@@ -3,7 +3,7 @@
 use mathlib.Core.Path.{sym, ap, subst}
 use Prim.Native.Nat.{ℕ, ◌≤◌}
 use lib.Seq.{length-take-le}
-use Rattle.extent.specs.Extent.{MiB}
+use Rattle.extent.specs.Extent.{mib}
 use Rattle.vhdx_tables.specs.declared.Reading.{Reading}
 use Rattle.vhdx.specs.Attach.{told}
 use Rattle.vhdx.proofs.read.Statement.{statement}
@@ -14,7 +14,7 @@ slice-aggregate-read c = sym (length-take-le c.before.before.args.work.length c.
 
 read-requires : tie.Need-read-requires
 read-requires c κs =
-    subst (λ (n : ℕ). MiB ≤ n) (sym (length-take-le c.before.before.args.work.length c.before.before.args.buffer.now c.before.before.requires.1)) c.before.before.requires.0
+    subst (λ (n : ℕ). mib ≤ n) (sym (length-take-le c.before.before.args.work.length c.before.before.args.buffer.now c.before.before.requires.1)) c.before.before.requires.0
 
 returns : tie.Need-returns
 returns c = let a = c.before.before.before.before.args in ap (λ (r : Reading). told r a.work.length a.work.count) c.before.read.ensures

@@ -4,7 +4,7 @@ use mathlib.Core.Path.{ap, ◌∙◌}
 use Prim.Native.Nat.{ℕ, ◌/◌}
 use native.Mathlib.Omega.{arith}
 use lib.ListN.{length}
-use Rattle.vhdx_entry.specs.Entry.{headerRule}
+use Rattle.vhdx_entry.specs.Entry.{header_rule}
 use Rattle.vhdx_entry.proofs.Laws.{in-first}
 use Rattle.vhdx_entry.proofs.Clauses.{header-in, bad-header, no_size, size_is, size_fits, bad-end, valid-at}
 use borrow.Author.Rules.{rules}
@@ -27,7 +27,7 @@ ends-well-requires c κs =
     let start = c.before.before.before.before.before.before.before.before.before.before in
     let a = start.args in
     let h = c.before.before.before.before.before.before.before.before.sector.ensures.0 in
-    let rule = c.before.before.before.before.before.before.before.keeps-rules.ensures ∙ ap (headerRule a.guid (length a.log.now)) h ∙ header-in a.guid a.log.now a.pos.len a.pos.at start.requires.1 start.requires.0 in
+    let rule = c.before.before.before.before.before.before.before.keeps-rules.ensures ∙ ap (header_rule a.guid (length a.log.now)) h ∙ header-in a.guid a.log.now a.pos.len a.pos.at start.requires.1 start.requires.0 in
     let size = c.before.before.before.size in
     let is = c.before.size2.given.1 in (
       start.requires,
@@ -43,7 +43,7 @@ returns c =
     let start = c.before.before.before.before.before.before.before.before.before in
     let a = start.args in
     let h = c.before.before.before.before.before.before.before.sector.ensures.0 in
-    let rule = c.before.before.before.before.before.before.keeps-rules.ensures ∙ ap (headerRule a.guid (length a.log.now)) h ∙ header-in a.guid a.log.now a.pos.len a.pos.at start.requires.1 start.requires.0 in
+    let rule = c.before.before.before.before.before.before.keeps-rules.ensures ∙ ap (header_rule a.guid (length a.log.now)) h ∙ header-in a.guid a.log.now a.pos.len a.pos.at start.requires.1 start.requires.0 in
     no_size a.guid a.log.now a.pos.at rule c.before.before.size.result c.before.before.size.ensures c.enum_told.given.1
 
 returns-2 : tie.Need-returns-2
@@ -51,7 +51,7 @@ returns-2 c =
     let start = c.before.before.before.before.before.before.before.before.before.before.before.before.before in
     let a = start.args in
     let h = c.before.before.before.before.before.before.before.before.before.before.before.sector.ensures.0 in
-    let rule = c.before.before.before.before.before.before.before.before.before.before.keeps-rules.ensures ∙ ap (headerRule a.guid (length a.log.now)) h ∙ header-in a.guid a.log.now a.pos.len a.pos.at start.requires.1 start.requires.0 in
+    let rule = c.before.before.before.before.before.before.before.before.before.before.keeps-rules.ensures ∙ ap (header_rule a.guid (length a.log.now)) h ∙ header-in a.guid a.log.now a.pos.len a.pos.at start.requires.1 start.requires.0 in
     let size = c.before.before.before.before.before.before.size in
     valid-at a.guid a.log.now a.pos.at rule size.result size.ensures c.before.before.before.before.size2.given.1 c.before.before.before.before.before.before.before.before.before.if1.true
     c.before.before.ends-well.ensures c.before.if2.true
@@ -63,7 +63,7 @@ returns-3 c =
     let start = c.before.before.before.before.before.before.before.before.before.before.before.before in
     let a = start.args in
     let h = c.before.before.before.before.before.before.before.before.before.before.sector.ensures.0 in
-    let rule = c.before.before.before.before.before.before.before.before.before.keeps-rules.ensures ∙ ap (headerRule a.guid (length a.log.now)) h ∙ header-in a.guid a.log.now a.pos.len a.pos.at start.requires.1 start.requires.0 in
+    let rule = c.before.before.before.before.before.before.before.before.before.keeps-rules.ensures ∙ ap (header_rule a.guid (length a.log.now)) h ∙ header-in a.guid a.log.now a.pos.len a.pos.at start.requires.1 start.requires.0 in
     let size = c.before.before.before.before.before.size in
     bad-end a.guid a.log.now a.pos.at rule size.result size.ensures c.before.before.before.size2.given.1 c.before.before.before.before.before.before.before.before.if1.true
     c.before.ends-well.ensures c.if2.false
@@ -73,7 +73,7 @@ returns-4 c =
     let start = c.before.before.before.before in
     let a = start.args in
     let h = c.before.before.sector.ensures.0 in
-    let rule = c.before.keeps-rules.ensures ∙ ap (headerRule a.guid (length a.log.now)) h ∙ header-in a.guid a.log.now a.pos.len a.pos.at start.requires.1 start.requires.0 in
+    let rule = c.before.keeps-rules.ensures ∙ ap (header_rule a.guid (length a.log.now)) h ∙ header-in a.guid a.log.now a.pos.len a.pos.at start.requires.1 start.requires.0 in
     bad-header a.guid a.log.now a.pos.at rule c.if1.false
 
 pub read_spec : {M : Type 1} → statement M

@@ -2,13 +2,13 @@
 -- Assumes nothing.
 use mathlib.Core.Path.{sym, ◌∙◌}
 use borrow.Author.Tests.{not-true, not-false}
-use Rattle.vhdx_fit.specs.Fit.{factsFit}
+use Rattle.vhdx_fit.specs.Fit.{facts_fit}
 use borrow.Author.Rules.{rules}
 use Rattle.vhdx_fit.proofs.facts_fit.Statement.{statement}
 use Rattle.vhdx_fit.proofs.facts_fit.Tie as tie
 
 returns : tie.Need-returns
-unfolding factsFit
+unfolding facts_fit
 returns c = simp (sym c.before.sizes-keep-rules.ensures ∙ not-true _ c.if1.true)
 
 bat-keeps-rule-requires : tie.Need-bat-keeps-rule-requires
@@ -16,7 +16,7 @@ bat-keeps-rule-requires c κs =
     sym c.before.before.sizes-keep-rules.ensures ∙ not-false _ c.before.if1.false
 
 returns-2 : tie.Need-returns-2
-unfolding factsFit
+unfolding facts_fit
 returns-2 c =
     let e = c.before.before.before in
     simp (

@@ -2,19 +2,19 @@
 -- Assumes nothing.
 use native.Mathlib.Omega.{arith}
 use borrow.Author.Tests.{lt-leb, le-leb}
-use Rattle.vhdx_fit.specs.Fit.{locatorFits}
+use Rattle.vhdx_fit.specs.Fit.{locator_fits}
 use borrow.Author.Rules.{rules}
 use Rattle.vhdx_fit.proofs.locator_fits.Statement.{statement}
 use Rattle.vhdx_fit.proofs.locator_fits.Tie as tie
 
 returns : tie.Need-returns
-unfolding locatorFits
+unfolding locator_fits
 returns c =
     let f = c.before.before.before.before.before.args.facts in
     simp (lt-leb f.metadata.offset f.locator.offset (omega arith))
 
 returns-2 : tie.Need-returns-2
-unfolding locatorFits
+unfolding locator_fits
 returns-2 c =
     let f = c.before.before.before.before.before.before.before.before.before.args.facts in
     simp (le-leb f.metadata.offset f.locator.offset (omega arith), c.before.keeps-rule.ensures)

@@ -1,12 +1,12 @@
 -- `vhdx_fit::regions_fit` meets its contract: it has the definition's tests.
 -- Assumes nothing.
-use Rattle.vhdx_fit.specs.Fit.{regionsFit}
+use Rattle.vhdx_fit.specs.Fit.{regions_fit}
 use borrow.Author.Rules.{rules}
 use Rattle.vhdx_fit.proofs.regions_fit.Statement.{statement}
 use Rattle.vhdx_fit.proofs.regions_fit.Tie as tie
 
 returns : tie.Need-returns
-unfolding regionsFit
+unfolding regions_fit
 returns c =
     simp (
       c.before.share-a-byte.ensures,

@@ -7,14 +7,14 @@ use Prim.Native.Nat.{◌-◌, ◌≤◌}
 use native.Mathlib.Omega.{arith}
 use Rattle.decision.specs.Bounded.{first}
 use Rattle.decision.proofs.Laws.{first_more, first-end, first-hit}
-use Rattle.vhdx_locator.specs.Locator.{entryCount, has_key, entry_of}
+use Rattle.vhdx_locator.specs.Locator.{entry_count, has_key, entry_of}
 use Rattle.vhdx_locator.proofs.Laws.{Keeps, keeps, entry-keeps}
 use borrow.Author.Rules.{rules}
 use Rattle.vhdx_locator.proofs.entry_of.Statement.{statement}
 use Rattle.vhdx_locator.proofs.entry_of.Tie as tie
 
 abbrev invariant-loop : tie.invariant-loop
-invariant-loop item key count i₀ i = Keeps item × (count ≡ entryCount item) × (i ≤ count) × (first i (has_key item key) ≡ none)
+invariant-loop item key count i₀ i = Keeps item × (count ≡ entry_count item) × (i ≤ count) × (first i (has_key item key) ≡ none)
 
 abbrev decreases-loop : tie.decreases-loop
 decreases-loop item key count i₀ i = count - i
@@ -39,7 +39,7 @@ returns c =
     let l = c.before.before.before in
     let a = l.before.before.before.before.args in
     let hit : has_key a.item.now a.key.now l.loop.i ≡ true = sym c.before.has_key_lem.ensures ∙ c.if1.true in
-    sym (first-hit (has_key a.item.now a.key.now) l.loop.i (entryCount a.item.now) (omega arith) l.loop.invariant.3 hit)
+    sym (first-hit (has_key a.item.now a.key.now) l.loop.i (entry_count a.item.now) (omega arith) l.loop.invariant.3 hit)
 
 loop-again : tie.Need-loop-preserved invariant-loop decreases-loop
 loop-again c =
@@ -53,7 +53,7 @@ unfolding entry_of
 returns-2 c =
     let l = c.before in
     let a = l.before.before.before.before.args in
-    sym (first-end (has_key a.item.now a.key.now) l.loop.i (entryCount a.item.now) (omega arith) (omega arith) l.loop.invariant.3)
+    sym (first-end (has_key a.item.now a.key.now) l.loop.i (entry_count a.item.now) (omega arith) (omega arith) l.loop.invariant.3)
 
 pub entry-of-spec : {M : Type 1} → statement M
 entry-of-spec =

@@ -5,7 +5,7 @@ use mathlib.Core.Bool.{true}
 use native.Mathlib.Omega.{arith}
 use borrow.Author.Tests.{not-true, not-false}
 use Rattle.decision.specs.Bounded.{found}
-use Rattle.vhdx_locator.specs.Locator.{locatorRule, value_of}
+use Rattle.vhdx_locator.specs.Locator.{locator_rule, value_of}
 use Rattle.vhdx_locator.proofs.Laws.{keeps, entry_found}
 use borrow.Author.Rules.{rules}
 use Rattle.vhdx_locator.proofs.value.Statement.{statement}
@@ -23,7 +23,7 @@ value-requires : tie.Need-value-requires
 value-requires c κs =
     let d = c.before.before.before in
     let a = d.before.before.before.before.before.args in
-    let kept : locatorRule a.item.now ≡ true = sym d.before.before.keeps-rule.ensures ∙ not-false _ d.before.if1.false in
+    let kept : locator_rule a.item.now ≡ true = sym d.before.before.keeps-rule.ensures ∙ not-false _ d.before.if1.false in
     let hit = entry_found a.item.now a.key.now (sym d.entry_of.ensures ∙ ap found c.before.i.given.1) in
     omega (arith, keeps a.item.now kept)
 

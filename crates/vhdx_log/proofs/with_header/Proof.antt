@@ -4,7 +4,7 @@ use mathlib.Core.Path.{◌≡◌, sym, subst, ◌∙◌}
 use mathlib.Core.List.{List}
 use Prim.Native.Nat.{ℕ, ◌*◌, ◌%◌, ◌≤◌}
 use lib.ListN.{length}
-use Rattle.extent.specs.Extent.{MiB}
+use Rattle.extent.specs.Extent.{mib}
 use Rattle.vhdx_log.proofs.Answering.{zero_number, log-placed, without, within}
 use borrow.Author.Rules.{rules}
 use Rattle.vhdx_log.proofs.with_header.Statement.{statement}
@@ -20,7 +20,7 @@ with-log-requires : tie.Need-with-log-requires
 with-log-requires c κs =
     let s = c.before.before.before.before.before.before in
     let a = s.args in
-    subst (λ (l : List ℕ). (length l % MiB ≡ 0) × (length l ≤ 64 * MiB)) (sym c.part.ensures) (log-placed a.buffer.now a.length a.header s.requires)
+    subst (λ (l : List ℕ). (length l % mib ≡ 0) × (length l ≤ 64 * mib)) (sym c.part.ensures) (log-placed a.buffer.now a.length a.header s.requires)
 
 returns-2 : tie.Need-returns-2
 returns-2 c =

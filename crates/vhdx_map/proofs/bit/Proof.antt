@@ -3,7 +3,7 @@
 use native.Mathlib.Omega.{arith}
 use lib.ListN.{length}
 use Rattle.bitmap.specs.Bitmap.{bit}
-use Rattle.vhdx_map.specs.Lookup.{bitmapByte}
+use Rattle.vhdx_map.specs.Lookup.{bitmap_byte}
 use Rattle.vhdx_map.proofs.Laws.{bitmap-inside}
 use borrow.Author.Rules.{rules}
 use Rattle.vhdx_map.proofs.bit.Statement.{statement}
@@ -18,7 +18,7 @@ bit-requires : tie.Need-bit-requires
 bit-requires c κs = omega (arith, c.part.ensures.1.0)
 
 returns : tie.Need-returns
-unfolding bit bitmapByte
+unfolding bit bitmap_byte
 returns c = simp (c.bit.ensures, c.before.part.ensures.0, c.before.before.offset.ensures)
 
 pub bit-spec : {M : Type 1} → statement M

@@ -3,7 +3,7 @@
 use mathlib.Core.Path.{sym, ◌∙◌}
 use lib.ListN.{length}
 use Rattle.vhdx_fit.proofs.Laws.{sizes-kept}
-use Rattle.vhdx_map.specs.Lookup.{partialIn, located, inImage}
+use Rattle.vhdx_map.specs.Lookup.{partial_in, located, in_image_at}
 use borrow.Author.Rules.{rules}
 use Rattle.vhdx_map.proofs.in_image.Statement.{statement}
 use Rattle.vhdx_map.proofs.in_image.Tie as tie
@@ -14,25 +14,25 @@ fully-present-requires c κs =
     (sizes-kept (length s.args.image.now) s.args.facts s.requires.0, s.requires.1)
 
 returns : tie.Need-returns
-unfolding inImage located
+unfolding in_image_at located
 returns c =
     let m = c.before.before in
     simp (← m.before.payload-entry.ensures, sym m.meaning-of.ensures ∙ c.enum_told.given.1)
 
 returns-2 : tie.Need-returns-2
-unfolding inImage located
+unfolding in_image_at located
 returns-2 c =
     let m = c.before.before in
     simp (← m.before.payload-entry.ensures, sym m.meaning-of.ensures ∙ c.enum-told2.given.1)
 
 returns-3 : tie.Need-returns-3
-unfolding inImage located
+unfolding in_image_at located
 returns-3 c =
     let m = c.before.before in
     simp (← m.before.payload-entry.ensures, sym m.meaning-of.ensures ∙ c.enum-told3.given.1)
 
 returns-4 : tie.Need-returns-4
-unfolding inImage located
+unfolding in_image_at located
 returns-4 c =
     let m = c.before.before.before in
     simp (
@@ -42,7 +42,7 @@ returns-4 c =
     )
 
 returns-5 : tie.Need-returns-5
-unfolding inImage located partialIn
+unfolding in_image_at located partial_in
 returns-5 c =
     let m = c.before.before.before in
     simp (

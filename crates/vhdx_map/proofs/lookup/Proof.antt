@@ -7,9 +7,9 @@ use native.Mathlib.Omega.{arith}
 use lib.ListN.{length}
 use lib.Seq.{length-take-le}
 use borrow.Author.Tests.{not-true, not-false, lt-ltb, le-ltb}
-use Rattle.vhdx_fit.specs.Fit.{factsFit}
+use Rattle.vhdx_fit.specs.Fit.{facts_fit}
 use Rattle.vhdx_fit.proofs.Laws.{within-capacity, sizes-kept}
-use Rattle.vhdx_map.specs.Lookup.{sectorRule, lookup}
+use Rattle.vhdx_map.specs.Lookup.{sector_rule, lookup}
 use borrow.Author.Rules.{rules}
 use Rattle.vhdx_map.proofs.lookup.Statement.{statement}
 use Rattle.vhdx_map.proofs.lookup.Tie as tie
@@ -25,7 +25,7 @@ sectors-requires c κs =
     sizes-kept a.length a.facts p.1
 
 returns-2 : tie.Need-returns-2
-unfolding lookup sectorRule
+unfolding lookup sector_rule
 returns-2 c =
     let e = c.before.before in
     let a = e.before.before.before.args in
@@ -35,7 +35,7 @@ returns-2 c =
     )
 
 returns-3 : tie.Need-returns-3
-unfolding lookup sectorRule
+unfolding lookup sector_rule
 returns-3 c =
     let e = c.before.before.before.before in
     let a = e.before.before.before.args in
@@ -53,12 +53,12 @@ slice-aggregate-in-image c =
     sym (length-take-le a.length a.buffer.now p.0)
 
 in-image-requires : tie.Need-in-image-requires
-unfolding sectorRule
+unfolding sector_rule
 in-image-requires c κs =
     let e = c.before.before.before in
     let a = e.before.before.before.args in
     let p = within-capacity (length a.buffer.now) a.length a.facts (sym e.before.fits2.ensures ∙ not-false _ e.if1.false) in (
-      subst (λ (n : ℕ). factsFit n a.facts ≡ true) (sym (length-take-le a.length a.buffer.now p.0)) p.1,
+      subst (λ (n : ℕ). facts_fit n a.facts ≡ true) (sym (length-take-le a.length a.buffer.now p.0)) p.1,
       lt-ltb a.sector (a.facts.disk_size / a.facts.logical_sector_size) (omega (arith, c.before.before.sectors.ensures)),
     )
 

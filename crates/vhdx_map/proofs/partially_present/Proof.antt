@@ -5,18 +5,18 @@ use native.Mathlib.Omega.{arith}
 use lib.ListN.{length}
 use borrow.Author.Tests.{not-true, not-false}
 use Rattle.vhdx_fit.proofs.Laws.{sizes-kept}
-use Rattle.vhdx_map.specs.Lookup.{partialIn}
+use Rattle.vhdx_map.specs.Lookup.{partial_in}
 use Rattle.vhdx_map.proofs.Laws.{stored-inside}
 use borrow.Author.Rules.{rules}
 use Rattle.vhdx_map.proofs.partially_present.Statement.{statement}
 use Rattle.vhdx_map.proofs.partially_present.Tie as tie
 
 returns : tie.Need-returns
-unfolding partialIn
+unfolding partial_in
 returns c = simp (sym c.before.is-stored.ensures ∙ not-true _ c.if1.true)
 
 returns-2 : tie.Need-returns-2
-unfolding partialIn
+unfolding partial_in
 returns-2 c =
     let e = c.before.before.before in
     simp (
@@ -37,7 +37,7 @@ offset-requires c κs =
     (sizes-kept n s.args.facts s.requires.0, s.requires.1, omega (arith, stored, s.well-formed))
 
 returns-3 : tie.Need-returns-3
-unfolding partialIn
+unfolding partial_in
 returns-3 c =
     let p = c.before.before.before in
     let e = p.before.before.before in
@@ -50,7 +50,7 @@ returns-3 c =
     )
 
 returns-4 : tie.Need-returns-4
-unfolding partialIn
+unfolding partial_in
 returns-4 c =
     let p = c.before.before in
     let e = p.before.before.before in

@@ -1,7 +1,7 @@
 -- `vhdx_metadata::contents` meets its contract: each needed item is there with its length.
 -- Assumes nothing.
 use native.Mathlib.Omega.{arith}
-use Rattle.vhdx_metadata.specs.Known.{knownLengths}
+use Rattle.vhdx_metadata.specs.Known.{known_lengths}
 use Rattle.vhdx_metadata.specs.Items.{contents}
 use Rattle.vhdx_metadata.proofs.Laws.{table_kept, readable}
 use borrow.Author.Rules.{rules}
@@ -20,7 +20,7 @@ bytes-requires c κs =
     readable s.args.region.now s.requires _ (omega arith)
 
 u32-at-requires : tie.Need-u32-at-requires
-unfolding knownLengths
+unfolding known_lengths
 u32-at-requires c κs = omega (arith, c.bytes.ensures.1)
 
 bytes-requires-2 : tie.Need-bytes-requires-2
@@ -29,7 +29,7 @@ bytes-requires-2 c κs =
     readable s.args.region.now s.requires _ (omega arith)
 
 u64-at-requires : tie.Need-u64-at-requires
-unfolding knownLengths
+unfolding known_lengths
 u64-at-requires c κs = omega (arith, c.bytes2.ensures.1)
 
 bytes-requires-3 : tie.Need-bytes-requires-3
@@ -38,7 +38,7 @@ bytes-requires-3 c κs =
     readable s.args.region.now s.requires _ (omega arith)
 
 u32-at-requires-2 : tie.Need-u32-at-requires-2
-unfolding knownLengths
+unfolding known_lengths
 u32-at-requires-2 c κs = omega (arith, c.bytes3.ensures.1)
 
 bytes-requires-4 : tie.Need-bytes-requires-4
@@ -47,7 +47,7 @@ bytes-requires-4 c κs =
     readable s.args.region.now s.requires _ (omega arith)
 
 u32-at-requires-3 : tie.Need-u32-at-requires-3
-unfolding knownLengths
+unfolding known_lengths
 u32-at-requires-3 c κs = omega (arith, c.bytes4.ensures.1)
 
 bytes-requires-5 : tie.Need-bytes-requires-5
@@ -56,7 +56,7 @@ bytes-requires-5 c κs =
     readable s.args.region.now s.requires _ (omega arith)
 
 guid-at-requires : tie.Need-guid-at-requires
-unfolding knownLengths
+unfolding known_lengths
 guid-at-requires c κs = omega (arith, c.bytes5.ensures.1)
 
 extent-requires : tie.Need-extent-requires

@@ -4,7 +4,7 @@ use mathlib.Core.Path.{ap}
 use native.Mathlib.Omega.{arith}
 use Rattle.extent.specs.declared.Extent.{Extent}
 use Rattle.vhdx_locator.proofs.Laws.{value-inside}
-use Rattle.vhdx_parent.specs.Key.{inLocator}
+use Rattle.vhdx_parent.specs.Key.{in_locator}
 use borrow.Author.Rules.{rules}
 use Rattle.vhdx_parent.proofs.in_locator.Statement.{statement}
 use Rattle.vhdx_parent.proofs.in_locator.Tie as tie
@@ -17,7 +17,7 @@ from-start-requires c κs =
     omega (arith, offset, item.ensures.1.0, value-inside item.result.now s.args.key.now, s.requires, s.well-formed)
 
 returns : tie.Need-returns
-unfolding inLocator
+unfolding in_locator
 returns c = simp (c.from_start.ensures, c.before.value.ensures, c.before.before.part.ensures.0)
 
 pub in-locator-spec : {M : Type 1} → statement M

@@ -6,13 +6,13 @@ use lib.ListN.{length}
 use lib.Seq.{length-take-le}
 use borrow.Author.Tests.{not-true, not-false}
 use Rattle.vhdx_fit.proofs.Laws.{within-capacity, locator-inside}
-use Rattle.vhdx_parent.specs.Key.{keyExtent}
+use Rattle.vhdx_parent.specs.Key.{key_extent}
 use borrow.Author.Rules.{rules}
 use Rattle.vhdx_parent.proofs.value_extent.Statement.{statement}
 use Rattle.vhdx_parent.proofs.value_extent.Tie as tie
 
 returns : tie.Need-returns
-unfolding keyExtent
+unfolding key_extent
 returns c = simp (sym c.before.before.fits2.ensures ∙ not-true _ c.before.if1.true, c.nowhere.ensures)
 
 slice-aggregate-in-locator : tie.Need-slice-aggregate-in-locator
@@ -30,13 +30,13 @@ in-locator-requires c κs =
     omega (arith, length-take-le a.length a.buffer.now p.0, locator-inside a.length a.facts p.1 c.before.if2.true)
 
 returns-2 : tie.Need-returns-2
-unfolding keyExtent
+unfolding key_extent
 returns-2 c =
     let e = c.before.before.before in
     simp (sym e.before.fits2.ensures ∙ not-false _ e.if1.false, c.before.before.if2.true, c.in-locator.ensures)
 
 returns-3 : tie.Need-returns-3
-unfolding keyExtent
+unfolding key_extent
 returns-3 c =
     let e = c.before.before in
     simp (sym e.before.fits2.ensures ∙ not-false _ e.if1.false, c.before.if2.false, c.nowhere2.ensures)

@@ -4,7 +4,7 @@ use mathlib.Core.Path.{ap, ◌∙◌, subst}
 use Prim.Native.Nat.{ℕ}
 use native.Mathlib.Omega.{arith}
 use Rattle.vhdx_pieces_walk.specs.Walking as walking
-use Rattle.vhdx_pieces.specs.Machines.{bounds_of, walked, walkFrom}
+use Rattle.vhdx_pieces.specs.Machines.{bounds_of, walked, walk_from}
 use borrow.Author.Rules.{rules}
 use Rattle.vhdx_pieces.proofs.walk_from.Statement.{statement}
 use Rattle.vhdx_pieces.proofs.walk_from.Tie as tie
@@ -21,7 +21,7 @@ walk-turn-requires c κs =
     (c.before.before.before.requires, subst (λ (n : ℕ). walking.Onward b n c.start.result) c.before.sectors.ensures (c.start.ensures.1 b))
 
 returns : tie.Need-returns
-unfolding walkFrom
+unfolding walk_from
 returns c =
     let o = c.before.before.before.before.args.o in
     (c.walk_turn.ensures.0 ∙ ap (walked o o.count) (c.before.start.ensures.0 ∙ ap (λ (n : ℕ). walking.started (record { at = o.start; len = n }) o.left) c.before.before.sectors.ensures), c.walk_turn.ensures.1)

@@ -2,7 +2,7 @@
 -- Assumes nothing.
 use mathlib.Core.Path.{sym, ap, ◌∙◌, subst}
 use borrow.Author.Tests.{eq-eqb, ne_eqb}
-use Rattle.vhdx_pieces_plan.specs.Planning.{sectorsOf}
+use Rattle.vhdx_pieces_plan.specs.Planning.{sectors_of}
 use Rattle.vhdx_pieces_walk.specs.Walking.{Onward}
 use Rattle.vhdx_pieces.specs.Machines.{bounds_of, walked}
 use borrow.Author.Rules.{rules}
@@ -10,12 +10,12 @@ use Rattle.vhdx_pieces.proofs.walk_turn.Statement.{statement}
 use Rattle.vhdx_pieces.proofs.walk_turn.Tie as tie
 
 write-turn-requires : tie.Need-write-turn-requires
-write-turn-requires c κs = let a = c.before.before.before.args in (c.before.before.before.requires.0, subst (Onward (bounds_of a.o) (sectorsOf a.o.log)) c.before.step2.given.1 c.before.before.before.requires.1)
+write-turn-requires c κs = let a = c.before.before.before.args in (c.before.before.before.requires.0, subst (Onward (bounds_of a.o) (sectors_of a.o.log)) c.before.step2.given.1 c.before.before.before.requires.1)
 
 returns : tie.Need-returns
 returns c =
     let a = c.before.before.before.args in
-    let o = subst (Onward (bounds_of a.o) (sectorsOf a.o.log)) c.before.step.given.1 c.before.before.before.requires.1 in
+    let o = subst (Onward (bounds_of a.o) (sectors_of a.o.log)) c.before.step.given.1 c.before.before.before.requires.1 in
     (sym (ap (walked a.o a.unwritten) c.before.step.given.1), (c.before.before.before.requires.0, o.0, o.1))
 
 returns-2 : tie.Need-returns-2

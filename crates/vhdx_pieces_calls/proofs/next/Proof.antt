@@ -4,7 +4,7 @@ use mathlib.Core.Path.{sym, ap, ◌∙◌, subst}
 use Rattle.vhdx_pieces.specs.declared.Turn.{Turn}
 use Rattle.vhdx_pieces_slots.specs.declared.Loaded.{Loaded}
 use Rattle.vhdx_pieces_slots.specs.Loading.{Sound}
-use Rattle.vhdx_pieces_calls.specs.Calls.{requestOf, numbersOf, piece_of, nextRequest, nextNumbers, nextPiece}
+use Rattle.vhdx_pieces_calls.specs.Calls.{request_of, numbers_of, piece_of, next_request, next_numbers, next_piece}
 use borrow.Author.Rules.{rules}
 use Rattle.vhdx_pieces_calls.proofs.next.Statement.{statement}
 use Rattle.vhdx_pieces_calls.proofs.next.Tie as tie
@@ -20,10 +20,10 @@ returns c =
     let a = c.before.before.before.before.before.before.before.before.before.before.before.args in
     let l = sym c.before.before.before.before.before.before.before.before.before.load.ensures.0 ∙ c.before.before.before.before.before.before.before.m.given.1 in
     let t = c.before.before.before.before.turn.ensures.0 in (
-      c.answer.ensures.0 ∙ ap requestOf t ∙ sym (ap (λ (x : Loaded). nextRequest x a.piece.now) l),
+      c.answer.ensures.0 ∙ ap request_of t ∙ sym (ap (λ (x : Loaded). next_request x a.piece.now) l),
       (
-        c.answer.ensures.1 ∙ ap numbersOf t ∙ sym (ap (λ (x : Loaded). nextNumbers x a.machine.now a.piece.now) l),
-        c.before.before.fill.ensures ∙ ap (λ (x : Turn). piece_of x a.piece.now) t ∙ sym (ap (λ (x : Loaded). nextPiece x a.piece.now) l),
+        c.answer.ensures.1 ∙ ap numbers_of t ∙ sym (ap (λ (x : Loaded). next_numbers x a.machine.now a.piece.now) l),
+        c.before.before.fill.ensures ∙ ap (λ (x : Turn). piece_of x a.piece.now) t ∙ sym (ap (λ (x : Loaded). next_piece x a.piece.now) l),
       ),
     )
 
@@ -31,10 +31,10 @@ returns-2 : tie.Need-returns-2
 returns-2 c =
     let a = c.before.before.before.before.args in
     let l = sym c.before.before.load.ensures.0 ∙ c.enum_told.given.1 in (
-      sym (ap (λ (x : Loaded). nextRequest x a.piece.now) l),
+      sym (ap (λ (x : Loaded). next_request x a.piece.now) l),
       (
-        sym (ap (λ (x : Loaded). nextNumbers x a.machine.now a.piece.now) l),
-        sym (ap (λ (x : Loaded). nextPiece x a.piece.now) l),
+        sym (ap (λ (x : Loaded). next_numbers x a.machine.now a.piece.now) l),
+        sym (ap (λ (x : Loaded). next_piece x a.piece.now) l),
       ),
     )
 

@@ -2,7 +2,7 @@
 -- Assumes nothing.
 use mathlib.Core.Path.{sym, ◌∙◌, subst}
 use native.Mathlib.Omega.{arith}
-use Rattle.vhdx_pieces_entry.specs.Pass.{onFront, Sized}
+use Rattle.vhdx_pieces_entry.specs.Pass.{on_front, Sized}
 use Rattle.vhdx_pieces_entry.proofs.Keeping.{past-sized, fits-here, told, broken, whole}
 use borrow.Author.Rules.{rules}
 use Rattle.vhdx_pieces_entry.proofs.on_front.Statement.{statement}
@@ -26,13 +26,13 @@ settled-requires c κs =
     subst (Sized a.n) (sym c.past.ensures) (past-sized a.n a.x _ _ a.s.now c.before.before.before.before.before.before.before.before.before.requires.2.sized (omega (arith, c.before.before.before.before.before.before.here.ensures)) w.1)
 
 returns : tie.Need-returns
-unfolding onFront
+unfolding on_front
 returns c =
     let a = c.before.before.before.before.before.before.before.args in
     broken a.x a.s.now c.before.before.descriptors.result c.before.before.before.from.ensures c.before.before.before.before.here.ensures c.before.before.descriptors.ensures a.n c.enum_told.given.1
 
 returns-2 : tie.Need-returns-2
-unfolding onFront
+unfolding on_front
 returns-2 c =
     let a = c.before.before.before.before.before.before.before.before.before.before.args in
     c.settled.ensures ∙ whole a.x a.s.now c.before.before.before.before.before.descriptors.result c.before.before.before.before.before.before.from.ensures c.before.before.before.before.before.before.before.here.ensures c.before.before.before.before.before.descriptors.ensures a.n c.before.before.before.d.given.1 c.before.past.ensures

@@ -15,7 +15,7 @@ use Rattle.vhdx_pieces_plan.specs.declared.Step.{Step}
 use Rattle.vhdx_pieces_plan.specs.declared.Step.TheVariants.{Ended}
 use Rattle.vhdx_pieces_plan.specs.declared.Outcome.TheVariants.{Refused}
 use Rattle.vhdx_sequence.specs.declared.Found.TheVariants as found
-use Rattle.vhdx_pieces_plan.specs.Planning.{sectorsOf, sought, toured}
+use Rattle.vhdx_pieces_plan.specs.Planning.{sectors_of, sought, toured}
 use borrow.Author.Rules.{rules}
 use Rattle.vhdx_pieces_plan.proofs.seek.Statement.{statement}
 use Rattle.vhdx_pieces_plan.proofs.seek.Tie as tie
@@ -23,15 +23,15 @@ use Rattle.vhdx_pieces_plan.proofs.seek.Tie as tie
 both : (q : Sequence) (n : ℕ) → (ltb q.start n && ltb q.more n) ≡ true → (q.start < n) × (q.more < n)
 both q n h = let b = (and-eq-true_iff (ltb q.start n) (ltb q.more n)).0 h in (ltb-true _ _ b.0, ltb-true _ _ b.1)
 
-module _ (x : Context) (q : Sequence) (n : ℕ) (e : n ≡ sectorsOf x.log) where
+module _ (x : Context) (q : Sequence) (n : ℕ) (e : n ≡ sectors_of x.log) where
   taken : (ltb q.start n && ltb q.more n) ≡ true → {s : survey.Step} → s ≡ touring.started (record { at = q.start; len = n }) q.more → toured x q s ≡ sought x (found.At q)
   taken h p =
       ap (toured x q) (p ∙ ap (λ (m : ℕ). touring.started (record { at = q.start; len = m }) q.more) e)
-      ∙ sym (ap (λ (b : Bool). check b (Ended (Refused 5)) (toured x q (touring.started (record { at = q.start; len = sectorsOf x.log }) q.more))) (sym (ap (λ (m : ℕ). ltb q.start m && ltb q.more m) e) ∙ h))
+      ∙ sym (ap (λ (b : Bool). check b (Ended (Refused 5)) (toured x q (touring.started (record { at = q.start; len = sectors_of x.log }) q.more))) (sym (ap (λ (m : ℕ). ltb q.start m && ltb q.more m) e) ∙ h))
 
   left : (ltb q.start n && ltb q.more n) ≡ false → Ended (Refused 5) ≡ sought x (found.At q)
   left h =
-      sym (ap (λ (b : Bool). check b (Ended (Refused 5)) (toured x q (touring.started (record { at = q.start; len = sectorsOf x.log }) q.more))) (sym (ap (λ (m : ℕ). ltb q.start m && ltb q.more m) e) ∙ h))
+      sym (ap (λ (b : Bool). check b (Ended (Refused 5)) (toured x q (touring.started (record { at = q.start; len = sectors_of x.log }) q.more))) (sym (ap (λ (m : ℕ). ltb q.start m && ltb q.more m) e) ∙ h))
 
 start-requires : tie.Need-start-requires
 start-requires c κs =

@@ -4,7 +4,7 @@ use mathlib.Core.Path.{◌≡◌, sym, ap, ◌∙◌, subst}
 use Prim.Native.Nat.{ℕ}
 use native.Mathlib.Omega.{arith}
 use Rattle.extent.specs.declared.Extent.{Extent}
-use Rattle.vhdx_pieces_plan.specs.Planning.{sectorIn, wantedIn, SaneIn}
+use Rattle.vhdx_pieces_plan.specs.Planning.{sector_in, wanted_in, SaneIn}
 use Rattle.vhdx_pieces_plan.proofs.Turns.{size_small}
 use borrow.Author.Rules.{rules}
 use Rattle.vhdx_pieces_plan.proofs.wanted.Statement.{statement}
@@ -35,19 +35,19 @@ returns : tie.Need-returns
 returns c =
     let p = c.before.before.before.before.before.before.before.args.p in
     let s = subst (SaneIn p.context) c.before.before.before.phase.given.1 c.before.before.before.before.before.before.before.requires in
-    (extent-path c.before.offset.ensures.0 c.size.ensures ∙ sym (ap (wantedIn p.context.log) c.before.before.before.phase.given.1), omega (arith, c.before.offset.ensures.1, c.size.ensures, s.0), omega (arith, size_small c.before.before.before.phase.given.0.0, c.size.ensures))
+    (extent-path c.before.offset.ensures.0 c.size.ensures ∙ sym (ap (wanted_in p.context.log) c.before.before.before.phase.given.1), omega (arith, c.before.offset.ensures.1, c.size.ensures, s.0), omega (arith, size_small c.before.before.before.phase.given.0.0, c.size.ensures))
 
 returns-2 : tie.Need-returns-2
 returns-2 c =
     let p = c.before.before.before.before.before.before.before.args.p in
     let s = subst (SaneIn p.context) c.before.before.before.phase2.given.1 c.before.before.before.before.before.before.before.requires in
-    (c.sector-at.ensures.0 ∙ ap (sectorIn p.context.log) c.before.wanted.ensures.0 ∙ sym (ap (wantedIn p.context.log) c.before.before.before.phase2.given.1), omega (arith, c.sector-at.ensures.1, s.0.inside), omega (arith, c.sector-at.ensures))
+    (c.sector-at.ensures.0 ∙ ap (sector_in p.context.log) c.before.wanted.ensures.0 ∙ sym (ap (wanted_in p.context.log) c.before.before.before.phase2.given.1), omega (arith, c.sector-at.ensures.1, s.0.inside), omega (arith, c.sector-at.ensures))
 
 returns-3 : tie.Need-returns-3
 returns-3 c =
     let p = c.before.before.before.before.before.before.before.before.args.p in
     let s = subst (SaneIn p.context) c.before.before.before.before.phase3.given.1 c.before.before.before.before.before.before.before.before.requires in
-    (c.sector-at2.ensures.0 ∙ ap (sectorIn p.context.log) c.before.wanted2.ensures.0 ∙ sym (ap (wantedIn p.context.log) c.before.before.before.before.phase3.given.1), omega (arith, c.sector-at2.ensures.1, s.0.inside), omega (arith, c.sector-at2.ensures))
+    (c.sector-at2.ensures.0 ∙ ap (sector_in p.context.log) c.before.wanted2.ensures.0 ∙ sym (ap (wanted_in p.context.log) c.before.before.before.before.phase3.given.1), omega (arith, c.sector-at2.ensures.1, s.0.inside), omega (arith, c.sector-at2.ensures))
 
 pub wanted-spec : {M : Type 1} → statement M
 wanted-spec =

@@ -5,7 +5,7 @@ use native.Mathlib.Omega.{arith}
 use Rattle.vhdx_sequence.specs.Scan.{state_of}
 use Rattle.vhdx_pieces_entry.proofs.Laws.{also}
 use Rattle.vhdx_pieces_scan.specs.declared.Stage.{Stage}
-use Rattle.vhdx_pieces_scan.specs.Scanning.{Staged, Onward, progressed, stepIn, step_of}
+use Rattle.vhdx_pieces_scan.specs.Scanning.{Staged, Onward, progressed, step_in, step_of}
 use Rattle.vhdx_pieces_scan.proofs.Advancing.{scan-advances}
 use borrow.Author.Rules.{rules}
 use Rattle.vhdx_pieces_scan.proofs.next.Statement.{statement}
@@ -38,7 +38,7 @@ returns c =
     let s = a.s in
     also (Onward s.place.pos.len)
     (c.progress.ensures ∙ ap (progressed s.place.pos.len s.place.count (state_of s.trace)) c.before.first.ensures.0
-    ∙ sym (ap (λ (x : Stage). stepIn a.guid s.place.pos.len s.place.count (state_of s.trace) x a.sector.now) c.before.before.enum_told.given.1))
+    ∙ sym (ap (λ (x : Stage). step_in a.guid s.place.pos.len s.place.count (state_of s.trace) x a.sector.now) c.before.before.enum_told.given.1))
     (scan-advances a.guid s a.sector.now c.before.before.before.before.before.before.before.requires.0).0
 
 returns-2 : tie.Need-returns-2
@@ -48,7 +48,7 @@ returns-2 c =
     let s = a.s in
     also (Onward s.place.pos.len)
     (c.progress2.ensures ∙ ap (progressed s.place.pos.len s.place.count (state_of s.trace)) c.before.further.ensures.0
-    ∙ sym (ap (λ (x : Stage). stepIn a.guid s.place.pos.len s.place.count (state_of s.trace) x a.sector.now) c.before.before.before.stage.given.1))
+    ∙ sym (ap (λ (x : Stage). step_in a.guid s.place.pos.len s.place.count (state_of s.trace) x a.sector.now) c.before.before.before.stage.given.1))
     (scan-advances a.guid s a.sector.now c.before.before.before.before.before.before.before.before.requires.0).0
 
 returns-3 : tie.Need-returns-3
@@ -58,7 +58,7 @@ returns-3 c =
     let s = a.s in
     also (Onward s.place.pos.len)
     (c.take.ensures
-    ∙ sym (ap (λ (x : Stage). stepIn a.guid s.place.pos.len s.place.count (state_of s.trace) x a.sector.now) c.before.before.stage2.given.1))
+    ∙ sym (ap (λ (x : Stage). step_in a.guid s.place.pos.len s.place.count (state_of s.trace) x a.sector.now) c.before.before.stage2.given.1))
     (scan-advances a.guid s a.sector.now c.before.before.before.before.before.before.before.requires.0).0
 
 pub next-spec : {M : Type 1} → statement M

@@ -2,7 +2,7 @@
 -- Assumes nothing.
 use mathlib.Core.Path.{sym, ap, ◌∙◌, subst}
 use native.Mathlib.Omega.{arith}
-use Rattle.vhdx_pieces_scan.specs.Scanning.{Staged, wantedIn}
+use Rattle.vhdx_pieces_scan.specs.Scanning.{Staged, wanted_in}
 use Rattle.vhdx_pieces_scan.proofs.Turns.{on-ring}
 use Rattle.vhdx_entry.specs.declared.ring.RingPos.{RingPos}
 use borrow.Author.Rules.{rules}
@@ -18,18 +18,18 @@ advance-requires c κs =
 returns : tie.Need-returns
 returns c =
     let s = c.before.before.before.args.s in
-    (sym (ap (wantedIn s.place.pos.len s.place.pos.at) c.enum_told.given.1), on-ring c.before.before.before.requires.upright)
+    (sym (ap (wanted_in s.place.pos.len s.place.pos.at) c.enum_told.given.1), on-ring c.before.before.before.requires.upright)
 
 returns-2 : tie.Need-returns-2
 returns-2 c =
     let s = c.before.before.before.before.before.args.s in
-    (ap (λ (p : RingPos). p.at) c.advance.ensures.0 ∙ sym (ap (wantedIn s.place.pos.len s.place.pos.at) c.before.before.stage.given.1), c.advance.ensures.1.0)
+    (ap (λ (p : RingPos). p.at) c.advance.ensures.0 ∙ sym (ap (wanted_in s.place.pos.len s.place.pos.at) c.before.before.stage.given.1), c.advance.ensures.1.0)
 
 returns-3 : tie.Need-returns-3
 returns-3 c =
     let s = c.before.before.before.before.args.s in
     let k = subst (Staged s.place.pos.len) c.before.stage2.given.1 c.before.before.before.before.requires.staged in
-    (sym (ap (wantedIn s.place.pos.len s.place.pos.at) c.before.stage2.given.1), k.2)
+    (sym (ap (wanted_in s.place.pos.len s.place.pos.at) c.before.stage2.given.1), k.2)
 
 pub wanted-spec : {M : Type 1} → statement M
 wanted-spec =

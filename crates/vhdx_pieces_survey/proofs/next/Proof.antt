@@ -6,7 +6,7 @@ use Prim.Native.Nat.{ℕ}
 use native.Mathlib.Omega.{arith}
 use lib.Dec.{leb}
 use borrow.Author.Tests.{eq-eqb, ne_eqb}
-use Rattle.vhdx_entry.specs.Entry.{descriptorSectors}
+use Rattle.vhdx_entry.specs.Entry.{descriptor_sectors}
 use Rattle.vhdx_pieces_entry.proofs.Laws.{also}
 use Rattle.vhdx_pieces_survey.specs.declared.Tour.{Tour}
 use Rattle.vhdx_pieces_survey.specs.Touring.{fits, Opened, Onward}
@@ -16,7 +16,7 @@ use borrow.Author.Rules.{rules}
 use Rattle.vhdx_pieces_survey.proofs.next.Statement.{statement}
 use Rattle.vhdx_pieces_survey.proofs.next.Tie as tie
 
-tested : (o : Tour) {f : ℕ} (b : Bool) → f ≡ descriptorSectors o.count → (leb f o.size && leb o.size o.pos.len) ≡ b → fits o ≡ b
+tested : (o : Tour) {f : ℕ} (b : Bool) → f ≡ descriptor_sectors o.count → (leb f o.size && leb o.size o.pos.len) ≡ b → fits o ≡ b
 tested o b p h = sym (ap (λ (x : ℕ). leb x o.size && leb o.size o.pos.len) p) ∙ h
 
 pass-requires : tie.Need-pass-requires

@@ -2,7 +2,7 @@
 -- Assumes nothing.
 use mathlib.Core.Path.{ap₂, ◌∙◌}
 use native.Mathlib.Omega.{arith}
-use Rattle.vhdx_pieces_survey.specs.Touring.{surveyIn, movedOn, passed}
+use Rattle.vhdx_pieces_survey.specs.Touring.{survey_in, moved_on, passed}
 use Rattle.vhdx_pieces_survey.proofs.Turns.{fits-here}
 use borrow.Author.Rules.{rules}
 use Rattle.vhdx_pieces_survey.proofs.pass.Statement.{statement}
@@ -18,7 +18,7 @@ unfolding passed
 returns c =
     let a = c.before.before.before.before.before.before.before.args in
     let t = a.t in
-    c.moved.ensures ∙ ap₂ (movedOn t) c.before.before.before.before.here.ensures (c.before.survey-in.ensures ∙ ap₂ (surveyIn a.log t.found a.sector.now) c.before.before.before.from.ensures c.before.before.before.before.here.ensures)
+    c.moved.ensures ∙ ap₂ (moved_on t) c.before.before.before.before.here.ensures (c.before.survey-in.ensures ∙ ap₂ (survey_in a.log t.found a.sector.now) c.before.before.before.from.ensures c.before.before.before.before.here.ensures)
 
 pub pass_spec : {M : Type 1} → statement M
 pass_spec =

@@ -4,8 +4,8 @@ use mathlib.Core.Path.{◌≡◌, refl, sym, ap, ◌∙◌}
 use Prim.Native.Nat.{◌+◌, ◌-◌, ◌*◌, ◌≤◌}
 use native.Mathlib.Omega.{arith}
 use lib.ListN.{length}
-use Rattle.vhdx_pieces_entry.specs.Sector.{descriptorIn}
-use Rattle.vhdx_pieces_survey.specs.Touring.{addedBy, surveyIn}
+use Rattle.vhdx_pieces_entry.specs.Sector.{descriptor_in}
+use Rattle.vhdx_pieces_survey.specs.Touring.{added_by, survey_in}
 use Rattle.vhdx_pieces_survey.proofs.Turns.{survey-more}
 use mathlib.Core.Path.{ap₂}
 use borrow.Author.Rules.{rules}
@@ -14,13 +14,13 @@ use Rattle.vhdx_pieces_survey.proofs.survey_in.Tie as tie
 
 abbrev invariant-loop : tie.invariant-loop
 invariant-loop log s from m all₀ i₀ all i =
-    (length s ≡ 4096) × (from + 32 * m ≤ 4096) × (i ≤ m) × (all ≡ surveyIn log all₀ s from i)
+    (length s ≡ 4096) × (from + 32 * m ≤ 4096) × (i ≤ m) × (all ≡ survey_in log all₀ s from i)
 
 abbrev decreases-loop : tie.decreases-loop
 decreases-loop log s from m all₀ i₀ all i = m - i
 
 loop-holds : tie.Need-loop-init invariant-loop decreases-loop
-unfolding surveyIn
+unfolding survey_in
 loop-holds c = (c.before.requires.0, c.before.requires.1, omega arith, refl)
 
 at-requires : tie.Need-at-requires invariant-loop decreases-loop
@@ -30,14 +30,14 @@ add-requires : tie.Need-add-requires invariant-loop decreases-loop
 add-requires c κs = c.at.ensures.1
 
 loop-again : tie.Need-loop-preserved invariant-loop decreases-loop
-unfolding descriptorIn
+unfolding descriptor_in
 loop-again c =
     let inv = c.before.before.before.loop.invariant in
     let a = c.before.before.before.before.before.args in (
       inv.0,
       inv.1,
       omega (arith, c.before.before.loop-test.true),
-      c.add.ensures ∙ ap₂ (addedBy a.log) inv.3 c.before.at.ensures.0 ∙ sym (survey-more a.log a.found a.s.now a.from c.before.before.before.loop.i),
+      c.add.ensures ∙ ap₂ (added_by a.log) inv.3 c.before.at.ensures.0 ∙ sym (survey-more a.log a.found a.s.now a.from c.before.before.before.loop.i),
     )
 
 returns : tie.Need-returns invariant-loop decreases-loop
@@ -45,7 +45,7 @@ returns c =
     let inv = c.before.loop.invariant in
     let a = c.before.before.before.args in
     let end : c.before.loop.i ≡ a.m = omega (arith, inv.2, c.loop-test.false) in
-    inv.3 ∙ ap (surveyIn a.log a.found a.s.now a.from) end
+    inv.3 ∙ ap (survey_in a.log a.found a.s.now a.from) end
 
 pub survey-in-spec : {M : Type 1} → statement M
 survey-in-spec =

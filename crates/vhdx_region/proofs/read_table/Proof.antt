@@ -4,35 +4,35 @@ use mathlib.Core.Path.{sym, ap, ◌∙◌}
 use borrow.Author.Tests.{not-true, not-false}
 use Rattle.decision.specs.Bounded.{found}
 use Rattle.vhdx_region.proofs.Entries.{found_below}
-use Rattle.vhdx_region.specs.Region.{readTable, batRow, metadataRow}
+use Rattle.vhdx_region.specs.Region.{read_table, bat_row, metadata_row}
 use borrow.Author.Rules.{rules}
 use Rattle.vhdx_region.proofs.read_table.Statement.{statement}
 use Rattle.vhdx_region.proofs.read_table.Tie as tie
 
 returns : tie.Need-returns
-unfolding readTable
+unfolding read_table
 returns c = simp (sym c.before.keeps-rules.ensures ∙ not-true _ c.if1.true)
 
 entry-requires : tie.Need-entry-requires
 entry-requires c κs =
     let b = c.before.before.before.before.before in
     let s = b.before.before.before.before.before.before in
-    (s.requires.0, found_below s.args.t.now batRow (sym b.before.before.find.ensures ∙ ap found b.b.given.1) s.requires.1)
+    (s.requires.0, found_below s.args.t.now bat_row (sym b.before.before.find.ensures ∙ ap found b.b.given.1) s.requires.1)
 
 entry-requires-2 : tie.Need-entry-requires-2
 entry-requires-2 c κs =
     let m = c.before.before.before in
     let s = m.before.before.before.before.before.before.before.before.before.before in
-    (s.requires.0, found_below s.args.t.now metadataRow (sym m.before.before.find2.ensures ∙ ap found m.m.given.1) s.requires.1)
+    (s.requires.0, found_below s.args.t.now metadata_row (sym m.before.before.find2.ensures ∙ ap found m.m.given.1) s.requires.1)
 
 returns-2 : tie.Need-returns-2
-unfolding readTable
+unfolding read_table
 returns-2 c =
     let x = c.before.before.before in
     simp (sym x.before.keeps-rules.ensures ∙ not-false _ x.if1.false, sym c.before.before.find.ensures ∙ ap found c.enum_told.given.1)
 
 returns-3 : tie.Need-returns-3
-unfolding readTable
+unfolding read_table
 returns-3 c =
     let b = c.before.before.before.before in
     let x = b.before.before.before in
@@ -43,7 +43,7 @@ returns-3 c =
     )
 
 returns-4 : tie.Need-returns-4
-unfolding readTable
+unfolding read_table
 returns-4 c =
     let m = c.before.before.before.before.before in
     let b = m.before.before.before.before in

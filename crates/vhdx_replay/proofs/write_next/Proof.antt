@@ -5,7 +5,7 @@ use mathlib.Core.List.{List}
 use Prim.Native.Nat.{ℕ}
 use lib.ListN.{length, drop}
 use Rattle.extent.specs.Extent.{part}
-use Rattle.vhdx_walk.specs.Walk.{sectorsLeft, Ready, Settled}
+use Rattle.vhdx_walk.specs.Walk.{sectors_left, Ready, Settled}
 use Rattle.vhdx_replay.proofs.Next.{fits, written, held, unchanged, past}
 use borrow.Author.Rules.{rules}
 use Rattle.vhdx_replay.proofs.write_next.Statement.{statement}
@@ -57,7 +57,7 @@ returns-2 c =
     let b = s.args.buffer.now in
     let log = part b s.args.log in
     let same = r.part2.ensures.0 in
-    let e = subst (λ (l : List ℕ). (sectorsLeft l f.forward.result ≡ drop 1 (sectorsLeft l s.args.walk)) × Settled l f.forward.result) same f.forward.ensures.1 in (
+    let e = subst (λ (l : List ℕ). (sectors_left l f.forward.result ≡ drop 1 (sectors_left l s.args.walk)) × Settled l f.forward.result) same f.forward.ensures.1 in (
       c.before.before.write.ensures
           ∙ written q.part.result.now log s.args.walk q.part.ensures.0 k.current.result _ a.s.given.1 k.current.ensures.0 b,
       (subst (λ (l : List ℕ). Ready l f.forward.result) same f.forward.ensures.0, e),

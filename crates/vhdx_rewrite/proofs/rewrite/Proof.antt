@@ -20,8 +20,8 @@ returns c =
     let z = b1.before.before in
     let s = z.before.before in
     let is = rewrite-is z.blank.result s.args.h.now s.args.identifier.now z.blank.ensures s.requires.0
-    b1.bytes.new.0 b2.bytes2.new.0 b3.bytes3.new.0 b4.bytes4.new.0 n8.bytes8.result id.no-identifier.result seq.sequence-number.result
-    b1.bytes.ensures seq.sequence-number.ensures n8.bytes8.ensures b2.bytes2.ensures b3.bytes3.ensures id.no-identifier.ensures b4.bytes4.ensures in
+    b1.bytes.new.0 b2.bytes2.new.0 b3.bytes3.new.0 b4.bytes4.new.0 n8.bytes8.result id.no_identifier.result seq.sequence-number.result
+    b1.bytes.ensures seq.sequence-number.ensures n8.bytes8.ensures b2.bytes2.ensures b3.bytes3.ensures id.no_identifier.ensures b4.bytes4.ensures in
     (is, ap length is ∙ rewritten-long s.args.h.now s.args.identifier.now s.requires.0 (omega arith))
 
 pub rewrite-spec : {M : Type 1} → statement M

@@ -5,7 +5,7 @@ use mathlib.Core.Path.{sym, ap, ◌∙◌}
 use Prim.Native.Nat.{◌+◌, ◌-◌, ◌≤◌, ◌<◌}
 use native.Mathlib.Omega.{arith}
 use borrow.Author.Rules.{rules}
-use Rattle.vhdx_entry.specs.Ring.{sectorCount, On}
+use Rattle.vhdx_entry.specs.Ring.{sector_count, On}
 use Rattle.vhdx_sequence.specs.declared.lap.Place.{Place}
 use Rattle.vhdx_sequence.proofs.Turn.{Scanned, begun, within, finished, turn-empty, turn-valid, sized-here, takes}
 use Rattle.vhdx_sequence.proofs.active.Statement.{statement}
@@ -15,10 +15,10 @@ abbrev invariant-loop : tie.invariant-loop
 invariant-loop log guid trace₀ place₀ trace place = Scanned log guid place trace
 
 abbrev decreases-loop : tie.decreases-loop
-decreases-loop log guid trace₀ place₀ trace place = (sectorCount log + sectorCount log) - place.count
+decreases-loop log guid trace₀ place₀ trace place = (sector_count log + sector_count log) - place.count
 
 -- in a turn: the place is on one of two laps, and its position is one of the log's ring
-in-turn : (c : tie.Then1 invariant-loop decreases-loop) → (c.before.before.loop.place.count < sectorCount c.before.before.before.before.before.before.args.log.now + sectorCount c.before.before.before.before.before.before.args.log.now) × On c.before.before.before.before.before.before.args.log.now c.before.before.loop.place.pos
+in-turn : (c : tie.Then1 invariant-loop decreases-loop) → (c.before.before.loop.place.count < sector_count c.before.before.before.before.before.before.args.log.now + sector_count c.before.before.before.before.before.before.args.log.now) × On c.before.before.before.before.before.before.args.log.now c.before.before.loop.place.pos
 in-turn c = within c.before.before.loop.invariant (sym c.before.goes_on.ensures ∙ c.if1.true)
 
 -- where a valid entry was found

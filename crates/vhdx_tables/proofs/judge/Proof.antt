@@ -3,8 +3,8 @@
 use mathlib.Core.Path.{sym, ◌∙◌}
 use mathlib.Core.Bool.{and-eq-true_iff}
 use borrow.Author.Tests.{not-true, not-false}
-use Rattle.vhdx_facts.specs.Ranges.{sizesRule}
-use Rattle.vhdx_tables.specs.Tables.{parentRule, judged}
+use Rattle.vhdx_facts.specs.Ranges.{sizes_rule}
+use Rattle.vhdx_tables.specs.Tables.{parent_rule, judged}
 use borrow.Author.Rules.{rules}
 use Rattle.vhdx_tables.proofs.judge.Statement.{statement}
 use Rattle.vhdx_tables.proofs.judge.Tie as tie
@@ -17,7 +17,7 @@ returns c =
 bat-keeps-rule-requires : tie.Need-bat-keeps-rule-requires
 bat-keeps-rule-requires c κs =
     let a = c.before.before.before.args in
-    ((and-eq-true_iff (sizesRule a.facts) (parentRule a.image.now a.facts)).0
+    ((and-eq-true_iff (sizes_rule a.facts) (parent_rule a.image.now a.facts)).0
     (sym c.before.values-keep-rules.ensures ∙ not-false _ c.if1.false)).0
 
 returns-2 : tie.Need-returns-2

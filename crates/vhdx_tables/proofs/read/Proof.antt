@@ -13,7 +13,7 @@ with-regions-requires c κs =
     let r = c.before.before.before in
     let a = r.before.before.args in
     let p = placed a.image.now a.log (sym r.read.ensures ∙ ap outcome c.before.regions.given.1) in
-    (p.metadata-placed.inside, p.metadata-placed.length_whole)
+    (p.metadata_placed.inside, p.metadata_placed.length_whole)
 
 returns : tie.Need-returns
 unfolding tables

@@ -2,7 +2,7 @@
 -- Assumes nothing.
 use mathlib.Core.Path.{sym, ◌∙◌}
 use borrow.Author.Tests.{not-true, not-false}
-use Rattle.vhdx_tables.specs.Tables.{parentRule}
+use Rattle.vhdx_tables.specs.Tables.{parent_rule}
 use borrow.Author.Rules.{rules}
 use Rattle.vhdx_tables.proofs.values_keep_rules.Statement.{statement}
 use Rattle.vhdx_tables.proofs.values_keep_rules.Tie as tie
@@ -11,7 +11,7 @@ returns : tie.Need-returns
 returns c = simp (sym c.before.sizes-keep-rules.ensures ∙ not-true _ c.if1.true)
 
 returns-2 : tie.Need-returns-2
-unfolding parentRule
+unfolding parent_rule
 returns-2 c =
     let p = c.before.before.before in
     simp (
@@ -22,7 +22,7 @@ returns-2 c =
     )
 
 returns-3 : tie.Need-returns-3
-unfolding parentRule
+unfolding parent_rule
 returns-3 c =
     simp (sym c.before.before.sizes-keep-rules.ensures ∙ not-false _ c.before.if1.false, c.if2.false)
 

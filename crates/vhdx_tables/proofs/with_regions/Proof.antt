@@ -13,13 +13,13 @@ use Rattle.vhdx_region.specs.declared.Regions.{Regions}
 use Rattle.vhdx_metadata.specs.declared.Items.{Items}
 use Rattle.vhdx_metadata.specs.Items.{items, outcome}
 use Rattle.vhdx_metadata.proofs.Laws.{locator-inside}
-use Rattle.vhdx_tables.specs.Tables.{locatorExtent, facts_of, withRegions}
+use Rattle.vhdx_tables.specs.Tables.{locator_extent, facts_of, with_regions}
 use borrow.Author.Rules.{rules}
 use Rattle.vhdx_tables.proofs.with_regions.Statement.{statement}
 use Rattle.vhdx_tables.proofs.with_regions.Tie as tie
 
 in_image : (parent : Bool) (region item : Extent) {n : ℕ} → item.offset + item.length ≤ region.length → region.offset + region.length ≤ n
-    → (locatorExtent parent region item).offset + (locatorExtent parent region item).length ≤ n
+    → (locator_extent parent region item).offset + (locator_extent parent region item).length ≤ n
 in_image false region item p q = omega arith
 in_image true region item p q = omega arith
 
@@ -48,13 +48,13 @@ judge-requires c κs =
     facts-in-image s.args.regions _ c.facts.ensures h s.requires.0
 
 returns : tie.Need-returns
-unfolding withRegions
+unfolding with_regions
 returns c =
     let r = c.before.before.before.before in
     simp (c.refused.ensures, sym (ap items r.before.part.ensures.0) ∙ sym r.read.ensures ∙ ap outcome c.before.before.number.given.1)
 
 returns-2 : tie.Need-returns-2
-unfolding withRegions
+unfolding with_regions
 returns-2 c =
     let r = c.before.before.before.before.before in
     simp (

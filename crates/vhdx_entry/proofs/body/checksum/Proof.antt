@@ -10,7 +10,7 @@ use lib.Seq.{length-take-le}
 use Rattle.crc32c.specs.Crc.{ones, updates, crc, zeroed}
 use Rattle.crc32c.proofs.Laws.{updates-append, zeroed-append}
 use Rattle.vhdx_entry.specs.declared.ring.RingPos.{RingPos}
-use Rattle.vhdx_entry.specs.Ring.{ring, sectorAt, On}
+use Rattle.vhdx_entry.specs.Ring.{ring, sector_at, On}
 use Rattle.vhdx_entry.proofs.Laws.{sector-on, sector-next, sector-first, length-ring}
 use borrow.Author.Rules.{rules}
 use Rattle.vhdx_entry.proofs.body.checksum.Statement.{statement}
@@ -20,14 +20,14 @@ use Rattle.vhdx_entry.proofs.body.checksum.Tie as tie
 abbrev over : List ℕ → ℕ → ℕ → ℕ
 over log s k = updates ones (zeroed (take (k * 4096) (ring log s)) 4)
 
-next : (r : List ℕ) (k : ℕ) {state : ℕ} {s : List ℕ} → (1 ≤ k) × (k * 4096 ≤ length r) → state ≡ updates ones (zeroed (take (k * 4096) r) 4) → s ≡ sectorAt r k
+next : (r : List ℕ) (k : ℕ) {state : ℕ} {s : List ℕ} → (1 ≤ k) × (k * 4096 ≤ length r) → state ≡ updates ones (zeroed (take (k * 4096) r) 4) → s ≡ sector_at r k
     → updates state s ≡ updates ones (zeroed (take ((k + 1) * 4096) r) 4)
 next r k {state} {s} b e h =
     let long = length-take-le (k * 4096) r b.1 in
     ap (λ (x : ℕ). updates x s) e ∙ ap (updates (updates ones (zeroed (take (k * 4096) r) 4))) h
     ∙ sym (ap (λ (x : List ℕ). updates ones (zeroed x 4)) (sector-next r k)
-    ∙ ap (updates ones) (zeroed-append (take (k * 4096) r) (sectorAt r k) 4 (omega arith))
-    ∙ updates-append ones (zeroed (take (k * 4096) r) 4) (sectorAt r k))
+    ∙ ap (updates ones) (zeroed-append (take (k * 4096) r) (sector_at r k) 4 (omega arith))
+    ∙ updates-append ones (zeroed (take (k * 4096) r) 4) (sector_at r k))
 
 abbrev invariant-loop : tie.invariant-loop
 invariant-loop log pos sectors state₀ k₀ state k = On log pos × (1 ≤ k) × (k ≤ sectors) × (sectors ≤ pos.len) × (state ≡ over log pos.at k)
@@ -54,8 +54,8 @@ loop-again c =
     let on = inv.0 in
     let r = ring a.log.now a.pos.at in
     let long : length r ≡ a.pos.len * 4096 = length-ring a.log.now a.pos.len a.pos.at on.1 on.0 ∙ on.1 in
-    let read : c.before.sector2.result.now ≡ sectorAt r k =
-    c.before.sector2.ensures.0 ∙ ap (λ (p : RingPos). sectorAt a.log.now p.at) c.before.before.advance.ensures.0
+    let read : c.before.sector2.result.now ≡ sector_at r k =
+    c.before.sector2.ensures.0 ∙ ap (λ (p : RingPos). sector_at a.log.now p.at) c.before.before.advance.ensures.0
     ∙ sym (sector-on a.log.now a.pos.len a.pos.at on.1 on.0 k (omega arith)) in
     (on, omega arith, omega arith, inv.3, c.update.ensures ∙ next r k (omega arith) inv.4 read)
 

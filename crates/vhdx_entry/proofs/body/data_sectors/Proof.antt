@@ -9,20 +9,20 @@ use borrow.Author.Tests.{not-true, not-false}
 use Rattle.decision.specs.Bounded.{every}
 use Rattle.decision.proofs.Laws.{every_more, every-end, every-not}
 use Rattle.vhdx_entry.specs.declared.ring.RingPos.{RingPos}
-use Rattle.vhdx_entry.specs.Ring.{ring, sectorAt, On}
-use Rattle.vhdx_entry.specs.Entry.{dataSectorRule}
+use Rattle.vhdx_entry.specs.Ring.{ring, sector_at, On}
+use Rattle.vhdx_entry.specs.Entry.{data_sector_rule}
 use Rattle.vhdx_entry.proofs.Laws.{sector-on}
 use borrow.Author.Rules.{rules}
 use Rattle.vhdx_entry.proofs.body.data_sectors.Statement.{statement}
 use Rattle.vhdx_entry.proofs.body.data_sectors.Tie as tie
 
 abbrev rules : List ℕ → ℕ → ℕ → ℕ → ℕ → Bool
-rules log s number from k = dataSectorRule number (sectorAt (ring log s) (from + k))
+rules log s number from k = data_sector_rule number (sector_at (ring log s) (from + k))
 
 read : (log : List ℕ) (pos : RingPos) (k : ℕ) {p : RingPos} {s : List ℕ} → On log pos → k < pos.len
-    → p ≡ record { at = (pos.at + k) % pos.len; len = pos.len } → s ≡ sectorAt log p.at → s ≡ sectorAt (ring log pos.at) k
+    → p ≡ record { at = (pos.at + k) % pos.len; len = pos.len } → s ≡ sector_at log p.at → s ≡ sector_at (ring log pos.at) k
 read log pos k on b e h =
-    h ∙ ap (λ (x : RingPos). sectorAt log x.at) e ∙ sym (sector-on log pos.len pos.at on.1 on.0 k b)
+    h ∙ ap (λ (x : RingPos). sector_at log x.at) e ∙ sym (sector-on log pos.len pos.at on.1 on.0 k b)
 
 abbrev invariant-loop : tie.invariant-loop
 invariant-loop log pos number from count k₀ k = On log pos × (from + count ≤ pos.len) × (k ≤ count) × (every k (rules log pos.at number from) ≡ true)
@@ -40,7 +40,7 @@ returns c =
     let k = c.before.before.before.before.before.loop.k in
     let f = rules a.log.now a.pos.at a.number a.from in
     let no : f k ≡ false =
-    ap (dataSectorRule a.number) (sym (read a.log.now a.pos (a.from + k) c.before.before.before.before.before.loop.invariant.0 (omega arith) c.before.before.before.advance.ensures.0 c.before.before.sector.ensures.0))
+    ap (data_sector_rule a.number) (sym (read a.log.now a.pos (a.from + k) c.before.before.before.before.before.loop.invariant.0 (omega arith) c.before.before.before.advance.ensures.0 c.before.before.sector.ensures.0))
     ∙ sym c.before.is-data-sector.ensures ∙ not-true _ c.if1.true in
     sym (every-not f k a.count c.before.before.before.before.loop-test.true no)
 
@@ -51,7 +51,7 @@ loop-again c =
     let k = c.before.before.before.before.before.loop.k in
     let f = rules a.log.now a.pos.at a.number a.from in
     let yes : f k ≡ true =
-    ap (dataSectorRule a.number) (sym (read a.log.now a.pos (a.from + k) inv.0 (omega arith) c.before.before.before.advance.ensures.0 c.before.before.sector.ensures.0))
+    ap (data_sector_rule a.number) (sym (read a.log.now a.pos (a.from + k) inv.0 (omega arith) c.before.before.before.advance.ensures.0 c.before.before.sector.ensures.0))
     ∙ sym c.before.is-data-sector.ensures ∙ not-false _ c.if1.false in
     (inv.0, inv.1, omega arith, every_more f k inv.3 yes)
 

@@ -3,7 +3,7 @@
 use mathlib.Core.Path.{ap, ◌∙◌}
 use native.Mathlib.Omega.{arith}
 use Rattle.vhdx_entry.specs.Ring.{ring}
-use Rattle.vhdx_entry.specs.Entry.{descriptorSectors}
+use Rattle.vhdx_entry.specs.Entry.{descriptor_sectors}
 use Rattle.vhdx_entry.proofs.Laws.{length-ring}
 use Rattle.vhdx_entry.proofs.Clauses.{too_many, descriptor-broken, data-fit, data-too-long}
 use borrow.Author.Rules.{rules}
@@ -15,7 +15,7 @@ returns c =
     let a = c.before.before.before.before.args in
     let pre = c.before.before.before.before.requires in
     let long = length-ring a.log.now a.pos.len a.pos.at pre.0.1 pre.0.0 ∙ pre.0.1 in
-    too_many (ring a.log.now a.pos.at) long (omega (arith, c.before.before.sectors.ensures ∙ ap descriptorSectors pre.2))
+    too_many (ring a.log.now a.pos.at) long (omega (arith, c.before.before.sectors.ensures ∙ ap descriptor_sectors pre.2))
 
 returns-2 : tie.Need-returns-2
 returns-2 c =

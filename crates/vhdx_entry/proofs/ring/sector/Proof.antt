@@ -7,12 +7,12 @@ use native.Mathlib.Omega.{arith}
 use lib.ListN.{length, take, drop, length-drop}
 use lib.Seq.{length-take-le}
 use borrow.Author.Rules.{rules}
-use Rattle.vhdx_entry.specs.Ring.{sectorAt}
+use Rattle.vhdx_entry.specs.Ring.{sector_at}
 use Rattle.vhdx_entry.proofs.ring.sector.Statement.{statement}
 use Rattle.vhdx_entry.proofs.ring.sector.Tie as tie
 
 returns : tie.Need-returns
-unfolding sectorAt
+unfolding sector_at
 returns c =
     let a = c.before.before.args in
     let start = a.pos.at * 4096 in

@@ -1,7 +1,7 @@
 -- `vhdx_facts::geometry::bat_keeps_rule` meets its contract: eight times the entries are fewer than 2^64.
 -- Assumes nothing.
 use native.Mathlib.Omega.{arith}
-use Rattle.vhdx_facts.specs.Geometry.{batRule}
+use Rattle.vhdx_facts.specs.Geometry.{bat_rule}
 use Rattle.vhdx_facts.proofs.Laws.{counts}
 use borrow.Author.Rules.{rules}
 use Rattle.vhdx_facts.proofs.geometry.bat_keeps_rule.Statement.{statement}
@@ -12,7 +12,7 @@ mul-result c =
     record { fits = omega (arith, counts c.before.before.args.facts c.before.before.requires) }
 
 returns : tie.Need-returns
-unfolding batRule
+unfolding bat_rule
 returns c = rw c.before.needed-entries.ensures
 
 pub bat-keeps-rule-spec : {M : Type 1} → statement M

@@ -2,7 +2,7 @@
 -- Assumes nothing.
 use native.Mathlib.Nat.{le_of_lt}
 use native.Mathlib.Omega.{arith}
-use Rattle.vhdx_facts.specs.Geometry.{bitmapEntry}
+use Rattle.vhdx_facts.specs.Geometry.{bitmap_entry}
 use Rattle.vhdx_facts.proofs.Laws.{chunk-entries}
 use borrow.Author.Rules.{rules}
 use Rattle.vhdx_facts.proofs.geometry.bitmap_entry.Statement.{statement}
@@ -15,7 +15,7 @@ add-result-2 : tie.Need-overflow-add-result-2
 add-result-2 c = record { fits = omega (arith, chunk-entries (le_of_lt c.requires.1) c.requires.0) }
 
 returns : tie.Need-returns
-unfolding bitmapEntry
+unfolding bitmap_entry
 returns c = search rules
 
 pub bitmap-entry-spec : {M : Type 1} → statement M

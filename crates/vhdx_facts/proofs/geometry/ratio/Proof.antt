@@ -17,7 +17,7 @@ unfolding ratio
 returns c =
     let s = c.before.before in
     let f = s.args.facts in
-    ap (λ (b : ℕ). 2 ^ 23 * f.logical_sector_size / b) (c.block-shift.ensures.1.0 (sizes f s.requires).block-kept)
+    ap (λ (b : ℕ). 2 ^ 23 * f.logical_sector_size / b) (c.block-shift.ensures.1.0 (sizes f s.requires).block_kept)
 
 pub ratio-spec : {M : Type 1} → statement M
 ratio-spec = tie.close (tie.spec mul-result (λ c κs. search rules) (λ c. search rules) (λ c. search rules) returns)

@@ -15,7 +15,7 @@ returns-2 : tie.Need-returns-2
 returns-2 c =
     let s = c.before.before.before in
     let f = s.args.facts in
-    ap (λ (l : ℕ). f.disk_size / l) (sym (sector-size-else f.logical_sector_size (sizes f s.requires).sector-kept c.before.if1.false))
+    ap (λ (l : ℕ). f.disk_size / l) (sym (sector-size-else f.logical_sector_size (sizes f s.requires).sector_kept c.before.if1.false))
 
 pub sectors-spec : {M : Type 1} → statement M
 sectors-spec = tie.close (tie.spec returns returns-2)

@@ -6,18 +6,18 @@ use Prim.Native.Nat.{ℕ, ◌^◌, ◌<◌}
 use native.Mathlib.Omega.{arith}
 use lib.Dec.{ltb}
 use borrow.Author.Tests.{ne_eqb}
-use Rattle.vhdx_facts.specs.Ranges.{blockSizeRule}
+use Rattle.vhdx_facts.specs.Ranges.{block_size_rule}
 use Rattle.vhdx_facts.proofs.ranges.block_shift.Statement.{statement}
 use Rattle.vhdx_facts.proofs.ranges.block_shift.Tie as tie
 
 -- what is promised of the answer r
 abbrev Promised : ℕ → ℕ → Type 0
-Promised n r = (ltb 0 r ≡ blockSizeRule n) × ((blockSizeRule n ≡ true → 2 ^ r ≡ n) × (r < 64))
+Promised n r = (ltb 0 r ≡ block_size_rule n) × ((block_size_rule n ≡ true → 2 ^ r ≡ n) × (r < 64))
 
-size : (n m r : ℕ) → n ≡ m → blockSizeRule m ≡ true → 2 ^ r ≡ m → ltb 0 r ≡ true → r < 64 → Promised n r
-size n m r e rule power above below = (above ∙ sym (ap blockSizeRule e ∙ rule), (λ h. power ∙ sym e, below))
+size : (n m r : ℕ) → n ≡ m → block_size_rule m ≡ true → 2 ^ r ≡ m → ltb 0 r ≡ true → r < 64 → Promised n r
+size n m r e rule power above below = (above ∙ sym (ap block_size_rule e ∙ rule), (λ h. power ∙ sym e, below))
 
-none : (n : ℕ) → blockSizeRule n ≡ false → Promised n 0
+none : (n : ℕ) → block_size_rule n ≡ false → Promised n 0
 none n rule = (sym rule, (λ h. let z : ◌≡◌ {A = ℕ} 0 1 = cc in absurd (omega arith), omega arith))
 
 returns : tie.Need-returns

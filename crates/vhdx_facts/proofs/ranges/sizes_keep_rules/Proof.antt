@@ -2,13 +2,13 @@
 -- Assumes nothing.
 use mathlib.Core.Path.{sym, ◌∙◌}
 use borrow.Author.Tests.{not-true, not-false}
-use Rattle.vhdx_facts.specs.Ranges.{sizesRule}
+use Rattle.vhdx_facts.specs.Ranges.{sizes_rule}
 use borrow.Author.Rules.{rules}
 use Rattle.vhdx_facts.proofs.ranges.sizes_keep_rules.Statement.{statement}
 use Rattle.vhdx_facts.proofs.ranges.sizes_keep_rules.Tie as tie
 
 returns : tie.Need-returns
-unfolding sizesRule
+unfolding sizes_rule
 returns c = simp (sym c.before.is-sector-size.ensures ∙ not-true _ c.if1.taken)
 
 is-disk-size-requires : tie.Need-is-disk-size-requires
@@ -16,7 +16,7 @@ is-disk-size-requires c κs =
     sym c.before.before.before.is-sector-size.ensures ∙ not-false _ c.before.before.if1.left
 
 returns-2 : tie.Need-returns-2
-unfolding sizesRule
+unfolding sizes_rule
 returns-2 c =
     simp (
       sym c.before.before.before.before.is-sector-size.ensures ∙ not-false _ c.before.before.before.if1.left,

@@ -1,12 +1,12 @@
 -- `vhdx_header::choice::current_slot` meets its contract.
 -- Assumes nothing.
 use borrow.Author.Rules.{rules}
-use Rattle.vhdx_header.specs.Current.{currentSlot}
+use Rattle.vhdx_header.specs.Current.{current_slot}
 use Rattle.vhdx_header.proofs.choice.current_slot.Statement.{statement}
 use Rattle.vhdx_header.proofs.choice.current_slot.Tie as tie
 
 returns : tie.Need-returns
-unfolding currentSlot
+unfolding current_slot
 returns c =
     let parts = c.before.before.before.before.before in
     let numbers = c.before in

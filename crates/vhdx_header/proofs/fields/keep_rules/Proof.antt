@@ -3,12 +3,12 @@
 use native.Mathlib.Omega.{arith}
 use borrow.Author.Rules.{rules}
 use Rattle.field.proofs.Laws.{number_at}
-use Rattle.vhdx_header.specs.Header.{fieldRules}
+use Rattle.vhdx_header.specs.Header.{field_rules}
 use Rattle.vhdx_header.proofs.fields.keep_rules.Statement.{statement}
 use Rattle.vhdx_header.proofs.fields.keep_rules.Tie as tie
 
 returns : tie.Need-returns
-unfolding fieldRules
+unfolding field_rules
 returns c =
     let offset = c.before.before.before.before in
     let h = offset.before.before.before.before.args.h.now in

@@ -5,7 +5,7 @@ use Prim.Native.Nat.{max}
 use native.Mathlib.Omega.{arith}
 use lib.ListN.{length}
 use Rattle.extent.specs.declared.Extent.{Extent}
-use Rattle.vhdx_walk.specs.Bytes.{entriesFrom}
+use Rattle.vhdx_walk.specs.Bytes.{entries_from}
 use Rattle.vhdx_walk.proofs.Chains.{head-says, on-first, more-readable, first-placed}
 use Rattle.vhdx_log.specs.Work.{work}
 use Rattle.vhdx_log.proofs.Decisions.{refused-6}
@@ -31,8 +31,8 @@ returns c =
     let says = head-says log a.found.start a.found.more head.result read.before.sector.result.now head.ensures.0 head.ensures.1 read.before.sector.ensures.0 in
     let flushed = read.flushed-file-offset.ensures ∙ says.0 in
     let e : Extent = record { offset = a.log-offset; length = length log } in
-    refusal log 6 (work e (entriesFrom log a.found.start a.found.more) a.length a.capacity)
-    (refused-6 e (entriesFrom log a.found.start a.found.more) a.length a.capacity (omega arith))
+    refusal log 6 (work e (entries_from log a.found.start a.found.more) a.length a.capacity)
+    (refused-6 e (entries_from log a.found.start a.found.more) a.length a.capacity (omega arith))
 
 all-requires : tie.Need-all-requires
 all-requires c κs =

@@ -6,8 +6,8 @@ use Prim.Native.Nat.{◌+◌}
 use native.Mathlib.Omega.{arith}
 use lib.ListN.{length}
 use Rattle.extent.specs.declared.Extent.{Extent}
-use Rattle.vhdx_walk.specs.Cursor.{descriptorsLeft, Placed, Onward}
-use Rattle.vhdx_log.proofs.Surveys.{surveyFrom, survey-onward, surveyed}
+use Rattle.vhdx_walk.specs.Cursor.{descriptors_left, Placed, Onward}
+use Rattle.vhdx_log.proofs.Surveys.{survey_from, survey-onward, surveyed}
 use borrow.Author.Rules.{rules}
 use Rattle.vhdx_log.proofs.survey.all.Statement.{statement}
 use Rattle.vhdx_log.proofs.survey.all.Tie as tie
@@ -15,11 +15,11 @@ use Rattle.vhdx_log.proofs.survey.all.Tie as tie
 abbrev invariant-loop : tie.invariant-loop
 invariant-loop log log-offset log-length found₀ rest₀ found rest =
     Placed log rest
-    × (surveyFrom (record { offset = log-offset; length = log-length }) found (descriptorsLeft log rest)
-    ≡ surveyFrom (record { offset = log-offset; length = log-length }) found₀ (descriptorsLeft log rest₀))
+    × (survey_from (record { offset = log-offset; length = log-length }) found (descriptors_left log rest)
+    ≡ survey_from (record { offset = log-offset; length = log-length }) found₀ (descriptors_left log rest₀))
 
 abbrev decreases-loop : tie.decreases-loop
-decreases-loop log log-offset log-length found₀ rest₀ found rest = length (descriptorsLeft log rest) + rest.left
+decreases-loop log log-offset log-length found₀ rest₀ found rest = length (descriptors_left log rest) + rest.left
 
 loop-holds : tie.Need-loop-init invariant-loop decreases-loop
 loop-holds c = (c.before.requires, refl)
@@ -28,14 +28,14 @@ next-requires : tie.Need-next-requires invariant-loop decreases-loop
 next-requires c κs = c.loop.invariant.0
 
 returns : tie.Need-returns invariant-loop decreases-loop
-unfolding surveyFrom
+unfolding survey_from
 returns c =
     let s = c.before.before.before.before.before in
     let log = s.args.log.now in
     let l = c.before.before.before.loop in
-    let done : descriptorsLeft log l.rest ≡ [] = subst (Onward log l.rest) c.enum_told.given.1 c.before.before.next.ensures in
+    let done : descriptors_left log l.rest ≡ [] = subst (Onward log l.rest) c.enum_told.given.1 c.before.before.next.ensures in
     let e : Extent = record { offset = s.args.log-offset; length = s.args.log-length } in
-    ap (surveyFrom e l.found) (sym done) ∙ l.invariant.1 ∙ surveyed e (descriptorsLeft log s.args.cursor)
+    ap (survey_from e l.found) (sym done) ∙ l.invariant.1 ∙ surveyed e (descriptors_left log s.args.cursor)
 
 loop-less : tie.Need-loop-smaller invariant-loop decreases-loop
 loop-less c =
@@ -51,7 +51,7 @@ loop-again c =
     let l = c.before.before.before.before.loop in
     let o = subst (Onward log l.rest) c.before.next2.given.1 c.before.before.before.next.ensures in
     let e : Extent = record { offset = s.args.log-offset; length = s.args.log-length } in
-    (o.1, ap (surveyFrom e l.found) (sym o.0) ∙ l.invariant.1)
+    (o.1, ap (survey_from e l.found) (sym o.0) ∙ l.invariant.1)
 
 loop-less-2 : tie.Need-loop-smaller-2 invariant-loop decreases-loop
 loop-less-2 c =
@@ -68,7 +68,7 @@ loop-again-2 c =
     let o = subst (Onward log l.rest) c.before.before.run.given.1 c.before.before.before.before.next.ensures in
     let e : Extent = record { offset = s.args.log-offset; length = s.args.log-length } in (
       o.1,
-      survey-onward log e l.found c.add.result c.before.before.run.given.0.0 (descriptorsLeft log l.rest) _ o.3 c.add.ensures o.0
+      survey-onward log e l.found c.add.result c.before.before.run.given.0.0 (descriptors_left log l.rest) _ o.3 c.add.ensures o.0
           ∙ l.invariant.1,
     )
 

@@ -4,7 +4,7 @@ use native.Mathlib.Omega.{arith}
 use lib.ListN.{length}
 use Rattle.vhdx_fit.proofs.Laws.{sizes-kept, bat-inside, bat-long-enough}
 use Rattle.vhdx_facts.proofs.Laws.{counts}
-use Rattle.vhdx_map.specs.Lookup.{batEntry}
+use Rattle.vhdx_map.specs.Lookup.{bat_entry}
 use Rattle.vhdx_map.proofs.bat.at.Statement.{statement}
 use Rattle.vhdx_map.proofs.bat.at.Tie as tie
 
@@ -25,7 +25,7 @@ u64-at-requires c κs =
     omega (arith, s.requires.1, c.part.ensures.1.0, bat-long-enough (length s.args.image.now) s.args.facts s.requires.0)
 
 returns : tie.Need-returns
-unfolding batEntry
+unfolding bat_entry
 returns c = simp (c.u64-at.ensures, c.before.part.ensures.0)
 
 pub at-spec : {M : Type 1} → statement M

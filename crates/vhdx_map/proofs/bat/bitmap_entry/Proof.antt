@@ -3,7 +3,7 @@
 use native.Mathlib.Omega.{arith}
 use lib.ListN.{length}
 use Rattle.vhdx_fit.proofs.Laws.{sizes-kept}
-use Rattle.vhdx_map.specs.Lookup.{bitmapOf}
+use Rattle.vhdx_map.specs.Lookup.{bitmap_of}
 use Rattle.vhdx_map.proofs.Laws.{bitmap-needed}
 use Rattle.vhdx_map.proofs.bat.bitmap_entry.Statement.{statement}
 use Rattle.vhdx_map.proofs.bat.bitmap_entry.Tie as tie
@@ -20,7 +20,7 @@ at-requires c κs =
     (s.requires.0, omega (arith, bitmap-needed f s.args.sector (sizes-kept (length s.args.image.now) f s.requires.0) s.requires.1))
 
 returns : tie.Need-returns
-unfolding bitmapOf
+unfolding bitmap_of
 returns c = simp (c.at.ensures, c.before.bitmap-index.ensures)
 
 pub bitmap-entry-spec : {M : Type 1} → statement M

@@ -3,7 +3,7 @@
 use native.Mathlib.Omega.{arith}
 use lib.ListN.{length}
 use Rattle.vhdx_fit.proofs.Laws.{sizes-kept}
-use Rattle.vhdx_map.specs.Lookup.{payloadOf}
+use Rattle.vhdx_map.specs.Lookup.{payload_of}
 use Rattle.vhdx_map.proofs.Laws.{payload-needed}
 use Rattle.vhdx_map.proofs.bat.payload_entry.Statement.{statement}
 use Rattle.vhdx_map.proofs.bat.payload_entry.Tie as tie
@@ -20,7 +20,7 @@ at-requires c κs =
     (s.requires.0, omega (arith, payload-needed f s.args.sector (sizes-kept (length s.args.image.now) f s.requires.0) s.requires.1))
 
 returns : tie.Need-returns
-unfolding payloadOf
+unfolding payload_of
 returns c = simp (c.at.ensures, c.before.payload-index.ensures)
 
 pub payload-entry-spec : {M : Type 1} → statement M

@@ -1,12 +1,12 @@
 -- `vhdx_map::entry::is_bitmap` meets its contract: it has the definition's tests.
 -- Assumes nothing.
-use Rattle.vhdx_map.specs.Entry.{bitmapRule}
+use Rattle.vhdx_map.specs.Entry.{bitmap_rule}
 use borrow.Author.Rules.{rules}
 use Rattle.vhdx_map.proofs.entry.is_bitmap.Statement.{statement}
 use Rattle.vhdx_map.proofs.entry.is_bitmap.Tie as tie
 
 returns : tie.Need-returns
-unfolding bitmapRule
+unfolding bitmap_rule
 returns c = simp c.is-stored.ensures
 
 pub is-bitmap-spec : {M : Type 1} → statement M

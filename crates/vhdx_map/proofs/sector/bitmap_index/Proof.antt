@@ -2,7 +2,7 @@
 -- Assumes nothing.
 use native.Mathlib.Omega.{arith}
 use Rattle.vhdx_facts.proofs.Laws.{counts}
-use Rattle.vhdx_map.specs.Lookup.{bitmapIndex}
+use Rattle.vhdx_map.specs.Lookup.{bitmap_index}
 use Rattle.vhdx_map.proofs.Laws.{chunk_of, chunk_small}
 use borrow.Author.Rules.{rules}
 use Rattle.vhdx_map.proofs.sector.bitmap_index.Statement.{statement}
@@ -16,7 +16,7 @@ bitmap-entry-requires c κs =
     (omega (arith, c.ratio.ensures, counts f s.requires.0), omega (arith, chunk_of f k s.requires.0 s.requires.1, chunk_small f k s.requires.0 s.requires.1))
 
 returns : tie.Need-returns
-unfolding bitmapIndex
+unfolding bitmap_index
 returns c =
     let s = c.before.before in
     simp (

@@ -17,7 +17,7 @@ unfolding block_of
 returns c =
     let s = c.before.before in
     let a = s.args in
-    ap (λ (b : ℕ). a.sector * a.facts.logical_sector_size / b) (c.block-shift.ensures.1.0 (sizes a.facts s.requires.0).block-kept)
+    ap (λ (b : ℕ). a.sector * a.facts.logical_sector_size / b) (c.block-shift.ensures.1.0 (sizes a.facts s.requires.0).block_kept)
 
 pub block_spec : {M : Type 1} → statement M
 block_spec = tie.close (tie.spec mul-result (λ c κs. search rules) (λ c. search rules) (λ c. search rules) returns)

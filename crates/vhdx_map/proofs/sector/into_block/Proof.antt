@@ -4,7 +4,7 @@ use mathlib.Core.Path.{sym, ap, ◌∙◌}
 use Prim.Native.Nat.{ℕ, ◌-◌, ◌*◌}
 use native.Mathlib.Nat.{div-mul-le_self, mod-eq-sub-div-mul}
 use native.Mathlib.Omega.{arith}
-use Rattle.vhdx_map.specs.Lookup.{block_of, intoBlock}
+use Rattle.vhdx_map.specs.Lookup.{block_of, into_block}
 use Rattle.vhdx_map.proofs.Laws.{start_small}
 use borrow.Author.Rules.{rules}
 use Rattle.vhdx_map.proofs.sector.into_block.Statement.{statement}
@@ -31,7 +31,7 @@ sub-result c =
     omega (arith, product, div-mul-le_self (s.args.sector * f.logical_sector_size) f.block_size)
 
 returns : tie.Need-returns
-unfolding block_of intoBlock
+unfolding block_of into_block
 returns c =
     let a = c.before.before.before.args in
     let at = a.sector * a.facts.logical_sector_size in

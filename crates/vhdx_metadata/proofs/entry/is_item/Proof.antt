@@ -1,14 +1,14 @@
 -- `vhdx_metadata::entry::is_item` meets its contract.
 -- Assumes nothing.
 use native.Mathlib.Omega.{arith}
-use Rattle.vhdx_metadata.specs.Known.{knownItems}
+use Rattle.vhdx_metadata.specs.Known.{known_items}
 use Rattle.field.proofs.Laws.{number_at}
 use borrow.Author.Rules.{rules}
 use Rattle.vhdx_metadata.proofs.entry.is_item.Statement.{statement}
 use Rattle.vhdx_metadata.proofs.entry.is_item.Tie as tie
 
 is-row-requires : tie.Need-is-row-requires
-unfolding knownItems
+unfolding known_items
 is-row-requires c κs = rw c.before.before.before.requires.1 (omega arith)
 
 returns : tie.Need-returns

@@ -3,7 +3,7 @@
 use mathlib.Core.Path.{sym, ap, ◌∙◌}
 use mathlib.Core.Bool.{not, and-true, and-false}
 use native.Mathlib.Omega.{arith}
-use Rattle.vhdx_metadata.specs.Table.{isUser}
+use Rattle.vhdx_metadata.specs.Table.{is_user}
 use Rattle.vhdx_metadata.proofs.Laws.{known-by-row}
 use borrow.Author.Rules.{rules}
 use Rattle.vhdx_metadata.proofs.entry.is_known.Statement.{statement}
@@ -16,7 +16,7 @@ returns c =
     let e = s.args.e.now in
     sym
     (known-by-row e (omega arith) s.requires.1 found.before.guid-at.ensures found.row.ensures c.enum_told.given.1
-    ∙ and-false (not (isUser e)))
+    ∙ and-false (not (is_user e)))
 
 returns-2 : tie.Need-returns-2
 returns-2 c =
@@ -26,7 +26,7 @@ returns-2 c =
     ap not c.is-user.ensures
     ∙ sym
     (known-by-row e (omega arith) s.requires.1 found.before.guid-at.ensures found.row.ensures c.before.enum-told2.given.1
-    ∙ and-true (not (isUser e)))
+    ∙ and-true (not (is_user e)))
 
 pub is-known-spec : {M : Type 1} → statement M
 is-known-spec =

@@ -1,7 +1,7 @@
 -- `vhdx_metadata::item::extent` meets its contract: the entry that was found says where.
 -- Assumes nothing.
 use native.Mathlib.Omega.{arith}
-use Rattle.vhdx_metadata.specs.Items.{extentOf}
+use Rattle.vhdx_metadata.specs.Items.{extent_of}
 use Rattle.vhdx_metadata.proofs.Laws.{found_below}
 use borrow.Author.Rules.{rules}
 use Rattle.vhdx_metadata.proofs.item.extent.Statement.{statement}
@@ -14,13 +14,13 @@ entry-requires c κs =
     (omega arith, found_below s.args.region.now s.args.row s.requires.1 find.find.ensures c.before.i.given.1)
 
 returns : tie.Need-returns
-unfolding extentOf
+unfolding extent_of
 returns c =
     let find = c.before.before.before in
     simp (c.nowhere.ensures, ← find.find.ensures, c.before.enum_told.given.1)
 
 returns-2 : tie.Need-returns-2
-unfolding extentOf
+unfolding extent_of
 returns-2 c =
     let place = c.before.before.before in
     simp (c.extent.ensures, c.before.entry.ensures.0, ← place.before.before.find.ensures, place.i.given.1)

@@ -8,14 +8,14 @@ use lib.ListN.{length}
 use borrow.Author.Tests.{not-true, not-false}
 use Rattle.decision.specs.Bounded.{every}
 use Rattle.decision.proofs.Laws.{every_more, every-end, every-not}
-use Rattle.vhdx_metadata.specs.Table.{tableRule}
-use Rattle.vhdx_metadata.specs.Items.{isThere}
+use Rattle.vhdx_metadata.specs.Table.{table_rule}
+use Rattle.vhdx_metadata.specs.Items.{is_there}
 use borrow.Author.Rules.{rules}
 use Rattle.vhdx_metadata.proofs.item.five_are_there.Statement.{statement}
 use Rattle.vhdx_metadata.proofs.item.five_are_there.Tie as tie
 
 abbrev invariant-loop : tie.invariant-loop
-invariant-loop region row₀ row = (65536 ≤ length region) × (tableRule region ≡ true) × (row ≤ 5) × (every row (isThere region) ≡ true)
+invariant-loop region row₀ row = (65536 ≤ length region) × (table_rule region ≡ true) × (row ≤ 5) × (every row (is_there region) ≡ true)
 
 abbrev decreases-loop : tie.decreases-loop
 decreases-loop region row₀ row = 5 - row
@@ -28,20 +28,20 @@ returns : tie.Need-returns invariant-loop decreases-loop
 returns c =
     let l = c.before.before.before in
     let region = l.before.before.args.region.now in
-    let no : isThere region l.loop.row ≡ false = sym c.before.is-there.ensures ∙ not-true _ c.if1.true in
-    sym (every-not (isThere region) l.loop.row 5 (omega arith) no)
+    let no : is_there region l.loop.row ≡ false = sym c.before.is-there.ensures ∙ not-true _ c.if1.true in
+    sym (every-not (is_there region) l.loop.row 5 (omega arith) no)
 
 loop-again : tie.Need-loop-preserved invariant-loop decreases-loop
 loop-again c =
     let l = c.before.before.before in
     let region = l.before.before.args.region.now in
-    let yes : isThere region l.loop.row ≡ true = sym c.before.is-there.ensures ∙ not-false _ c.if1.false in
-    (omega arith, l.loop.invariant.1, omega arith, every_more (isThere region) l.loop.row l.loop.invariant.3 yes)
+    let yes : is_there region l.loop.row ≡ true = sym c.before.is-there.ensures ∙ not-false _ c.if1.false in
+    (omega arith, l.loop.invariant.1, omega arith, every_more (is_there region) l.loop.row l.loop.invariant.3 yes)
 
 returns-2 : tie.Need-returns-2 invariant-loop decreases-loop
 returns-2 c =
     let l = c.before in
-    sym (every-end (isThere l.before.before.args.region.now) l.loop.row 5 (omega arith) (omega arith) l.loop.invariant.3)
+    sym (every-end (is_there l.before.before.args.region.now) l.loop.row 5 (omega arith) (omega arith) l.loop.invariant.3)
 
 pub five-are-there-spec : {M : Type 1} → statement M
 five-are-there-spec =

@@ -1,7 +1,7 @@
 -- `vhdx_metadata::item::is_there` meets its contract: the entry that was found says its length.
 -- Assumes nothing.
 use native.Mathlib.Omega.{arith}
-use Rattle.vhdx_metadata.specs.Items.{isThere}
+use Rattle.vhdx_metadata.specs.Items.{is_there}
 use Rattle.vhdx_metadata.proofs.Laws.{found_below}
 use borrow.Author.Rules.{rules}
 use Rattle.vhdx_metadata.proofs.item.is_there.Statement.{statement}
@@ -14,13 +14,13 @@ entry-requires c κs =
     (omega arith, found_below s.args.region.now s.args.row s.requires.1 find.find.ensures c.before.i.given.1)
 
 returns : tie.Need-returns
-unfolding isThere
+unfolding is_there
 returns c =
     let find = c.before.before in
     simp (← find.find.ensures, c.enum_told.given.1)
 
 returns-2 : tie.Need-returns-2
-unfolding isThere
+unfolding is_there
 returns-2 c =
     let place = c.before.before.before.before in
     simp (c.has-its-length.ensures, c.before.extent.ensures, c.before.before.entry.ensures.0, ← place.before.before.find.ensures, place.i.given.1)

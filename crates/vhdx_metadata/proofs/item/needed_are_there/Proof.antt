@@ -4,7 +4,7 @@ use mathlib.Core.Path.{sym, ◌∙◌}
 use native.Mathlib.Omega.{arith}
 use borrow.Author.Tests.{not-true, not-false}
 use Rattle.decision.proofs.Laws.{every-at}
-use Rattle.vhdx_metadata.specs.Items.{isThere, neededRule}
+use Rattle.vhdx_metadata.specs.Items.{is_there, needed_rule}
 use Rattle.vhdx_metadata.proofs.Laws.{table_kept}
 use Rattle.vhdx_metadata.proofs.item.needed_are_there.Statement.{statement}
 use Rattle.vhdx_metadata.proofs.item.needed_are_there.Tie as tie
@@ -15,14 +15,14 @@ five-are-there-requires c κs =
     (omega arith, table_kept s.args.region.now s.requires.1)
 
 returns : tie.Need-returns
-unfolding neededRule
+unfolding needed_rule
 returns c = simp (sym c.before.five-are-there.ensures ∙ not-true _ c.if1.true)
 
 has-parent-requires : tie.Need-has-parent-requires
 has-parent-requires c κs =
     let s = c.before.before.before in
     let five = sym c.before.five-are-there.ensures ∙ not-false _ c.if1.false in
-    (omega arith, s.requires.1, every-at (isThere s.args.region.now) 5 0 five (omega arith))
+    (omega arith, s.requires.1, every-at (is_there s.args.region.now) 5 0 five (omega arith))
 
 is-there-requires : tie.Need-is-there-requires
 is-there-requires c κs =
@@ -30,7 +30,7 @@ is-there-requires c κs =
     (omega arith, table_kept s.args.region.now s.requires.1, omega arith)
 
 returns-2 : tie.Need-returns-2
-unfolding neededRule
+unfolding needed_rule
 returns-2 c =
     let parent = c.before.before in
     simp (
@@ -40,7 +40,7 @@ returns-2 c =
     )
 
 returns-3 : tie.Need-returns-3
-unfolding neededRule
+unfolding needed_rule
 returns-3 c =
     let parent = c.before in
     simp (

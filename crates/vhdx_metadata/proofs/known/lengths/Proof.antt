@@ -1,12 +1,12 @@
 -- `vhdx_metadata::known::lengths` meets its contract: by computation.
 -- Assumes nothing.
 use mathlib.Core.Path.{refl}
-use Rattle.vhdx_metadata.specs.Known.{knownLengths}
+use Rattle.vhdx_metadata.specs.Known.{known_lengths}
 use Rattle.vhdx_metadata.proofs.known.lengths.Statement.{statement}
 use Rattle.vhdx_metadata.proofs.known.lengths.Tie as tie
 
 returns : tie.Need-returns
-unfolding knownLengths
+unfolding known_lengths
 returns c = refl
 
 pub lengths-spec : {M : Type 1} → statement M

@@ -9,13 +9,13 @@ use lib.ListN.{length}
 use borrow.Author.Tests.{not-true, not-false}
 use Rattle.decision.specs.Bounded.{every}
 use Rattle.decision.proofs.Laws.{every_more, every-end, every-not}
-use Rattle.vhdx_metadata.specs.Table.{entry, uniqueRule}
+use Rattle.vhdx_metadata.specs.Table.{entry, unique_rule}
 use borrow.Author.Rules.{rules}
 use Rattle.vhdx_metadata.proofs.table.is_distinct.Statement.{statement}
 use Rattle.vhdx_metadata.proofs.table.is_distinct.Tie as tie
 
 abbrev distinct : List ℕ → ℕ → ℕ → Bool
-distinct region i j = uniqueRule (entry region j) (entry region i)
+distinct region i j = unique_rule (entry region j) (entry region i)
 
 abbrev invariant-loop : tie.invariant-loop
 invariant-loop region i e j₀ j = (65536 ≤ length region) × (i < 2047) × (j ≤ i) × (every j (distinct region i) ≡ true)

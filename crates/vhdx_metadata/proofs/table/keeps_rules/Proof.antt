@@ -4,12 +4,12 @@ use mathlib.Core.Path.{sym, ◌∙◌}
 use native.Mathlib.Omega.{arith}
 use lib.ListN.{length}
 use borrow.Author.Tests.{lt-ltb, le-ltb}
-use Rattle.vhdx_metadata.specs.Table.{metadataRule}
+use Rattle.vhdx_metadata.specs.Table.{metadata_rule}
 use Rattle.vhdx_metadata.proofs.table.keeps_rules.Statement.{statement}
 use Rattle.vhdx_metadata.proofs.table.keeps_rules.Tie as tie
 
 returns : tie.Need-returns
-unfolding metadataRule
+unfolding metadata_rule
 returns c = simp (le-ltb 0 (length c.before.before.args.region.now) (omega arith))
 
 header-keeps-rule-requires : tie.Need-header-keeps-rule-requires
@@ -19,7 +19,7 @@ entries-keep-rules-requires : tie.Need-entries-keep-rules-requires
 entries-keep-rules-requires c κs = (omega arith, sym c.before.header-keeps-rule.ensures ∙ c.if2.true)
 
 returns-2 : tie.Need-returns-2
-unfolding metadataRule
+unfolding metadata_rule
 returns-2 c =
     let kept = c.before.before in
     simp (
@@ -29,7 +29,7 @@ returns-2 c =
     )
 
 returns-3 : tie.Need-returns-3
-unfolding metadataRule
+unfolding metadata_rule
 returns-3 c =
     let kept = c.before in
     simp (

@@ -3,13 +3,13 @@
 use Prim.Native.Nat.{◌+◌}
 use native.Mathlib.Omega.{arith}
 use borrow.Author.Tests.{le-ltb}
-use Rattle.vhdx_entry.specs.Entry.{descriptorSectors}
+use Rattle.vhdx_entry.specs.Entry.{descriptor_sectors}
 use borrow.Author.Rules.{rules}
 use Rattle.vhdx_pieces_sanity.proofs.walker.holds_data.Statement.{statement}
 use Rattle.vhdx_pieces_sanity.proofs.walker.holds_data.Tie as tie
 
 returns : tie.Need-returns
-returns c = let a = c.before.before.before.args in rw (le-ltb (descriptorSectors a.w.count + a.d.rank) a.w.size (omega (arith, c.if1.true)))
+returns c = let a = c.before.before.before.args in rw (le-ltb (descriptor_sectors a.w.count + a.d.rank) a.w.size (omega (arith, c.if1.true)))
 
 returns-2 : tie.Need-returns-2
 returns-2 c = rw c.before.before.sectors.ensures

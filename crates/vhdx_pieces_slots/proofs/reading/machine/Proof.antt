@@ -1,25 +1,25 @@
 -- `vhdx_pieces_slots::reading::machine` meets its contract.
 -- Assumes nothing.
 use borrow.Author.Tests.{eq-eqb, ne_eqb}
-use Rattle.vhdx_pieces_slots.specs.Slots.{machineFrom}
+use Rattle.vhdx_pieces_slots.specs.Slots.{machine_from}
 use borrow.Author.Rules.{rules}
 use Rattle.vhdx_pieces_slots.proofs.reading.machine.Statement.{statement}
 use Rattle.vhdx_pieces_slots.proofs.reading.machine.Tie as tie
 
 returns : tie.Need-returns
-unfolding machineFrom
+unfolding machine_from
 returns c = rw (eq-eqb _ _ c.before.if1.true, c.planner.ensures)
 
 returns-2 : tie.Need-returns-2
-unfolding machineFrom
+unfolding machine_from
 returns-2 c = rw (ne_eqb _ _ c.before.before.before.if1.false, eq-eqb _ _ c.before.if2.true, c.order.ensures)
 
 returns-3 : tie.Need-returns-3
-unfolding machineFrom
+unfolding machine_from
 returns-3 c = rw (ne_eqb _ _ c.before.before.before.before.before.if1.false, ne_eqb _ _ c.before.before.before.if2.false, eq-eqb _ _ c.before.if3.true, c.doing.ensures)
 
 returns-4 : tie.Need-returns-4
-unfolding machineFrom
+unfolding machine_from
 returns-4 c = rw (ne_eqb _ _ c.before.before.before.before.before.if1.false, ne_eqb _ _ c.before.before.before.if2.false, ne_eqb _ _ c.before.if3.false, c.doing2.ensures)
 
 pub machine-spec : {M : Type 1} → statement M

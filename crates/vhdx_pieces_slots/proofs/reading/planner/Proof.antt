@@ -1,12 +1,12 @@
 -- `vhdx_pieces_slots::reading::planner` meets its contract.
 -- Assumes nothing.
-use Rattle.vhdx_pieces_slots.specs.Slots.{plannerFrom}
+use Rattle.vhdx_pieces_slots.specs.Slots.{planner_from}
 use borrow.Author.Rules.{rules}
 use Rattle.vhdx_pieces_slots.proofs.reading.planner.Statement.{statement}
 use Rattle.vhdx_pieces_slots.proofs.reading.planner.Tie as tie
 
 returns : tie.Need-returns
-unfolding plannerFrom
+unfolding planner_from
 returns c = rw (c.phase.ensures, c.before.context.ensures)
 
 pub planner-spec : {M : Type 1} → statement M

@@ -1,12 +1,12 @@
 -- `vhdx_pieces_slots::reading::surveying` meets its contract.
 -- Assumes nothing.
-use Rattle.vhdx_pieces_slots.specs.Slots.{surveyingFrom}
+use Rattle.vhdx_pieces_slots.specs.Slots.{surveying_from}
 use borrow.Author.Rules.{rules}
 use Rattle.vhdx_pieces_slots.proofs.reading.surveying.Statement.{statement}
 use Rattle.vhdx_pieces_slots.proofs.reading.surveying.Tie as tie
 
 returns : tie.Need-returns
-unfolding surveyingFrom
+unfolding surveying_from
 returns c = rw c.tour.ensures
 
 pub surveying-spec : {M : Type 1} → statement M

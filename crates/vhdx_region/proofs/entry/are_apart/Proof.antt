@@ -2,13 +2,13 @@
 -- Assumes nothing.
 use native.Mathlib.Omega.{arith}
 use Rattle.vhdx_region.proofs.Entries.{identified}
-use Rattle.vhdx_region.specs.Region.{pairRule}
+use Rattle.vhdx_region.specs.Region.{pair_rule}
 use borrow.Author.Rules.{rules}
 use Rattle.vhdx_region.proofs.entry.are_apart.Statement.{statement}
 use Rattle.vhdx_region.proofs.entry.are_apart.Tie as tie
 
 returns : tie.Need-returns
-unfolding pairRule
+unfolding pair_rule
 returns c =
     let e = c.before.before.before.before.before.before.before.args.e.now in
     simp (

@@ -1,12 +1,12 @@
 -- `vhdx_region::entry::keeps_rule` meets its contract: each test is the rule that stands there.
 -- Assumes nothing.
-use Rattle.vhdx_region.specs.Region.{ownRule}
+use Rattle.vhdx_region.specs.Region.{own_rule}
 use borrow.Author.Rules.{rules}
 use Rattle.vhdx_region.proofs.entry.keeps_rule.Statement.{statement}
 use Rattle.vhdx_region.proofs.entry.keeps_rule.Tie as tie
 
 returns : tie.Need-returns
-unfolding ownRule
+unfolding own_rule
 returns c =
     simp (
       c.required-keeps-rule.ensures,

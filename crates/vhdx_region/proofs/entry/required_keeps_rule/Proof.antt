@@ -7,16 +7,16 @@ use mathlib.Core.List.{List}
 use native.Mathlib.Omega.{arith}
 use mathlib.Core.Option.{Option}
 use Rattle.field.specs.declared.Guid.{Guid}
-use Rattle.field.specs.Fields.{guidAt, number}
+use Rattle.field.specs.Fields.{guid_at, number}
 use Rattle.guid.specs.Stored.{row_of}
 use Rattle.vhdx_region.proofs.Entries.{identified}
-use Rattle.vhdx_region.specs.Region.{knownRegions, identifier}
+use Rattle.vhdx_region.specs.Region.{known_regions, identifier}
 use borrow.Author.Rules.{rules}
 use Rattle.vhdx_region.proofs.entry.required_keeps_rule.Statement.{statement}
 use Rattle.vhdx_region.proofs.entry.required_keeps_rule.Tie as tie
 
-row_is : (e : List ℕ) {known : List (List ℕ)} {g : Guid} {o : Option ℕ} → length e ≡ 32 → known ≡ knownRegions
-    → g ≡ guidAt e 0 → o ≡ row_of known (number g) → row_of knownRegions (identifier e) ≡ o
+row_is : (e : List ℕ) {known : List (List ℕ)} {g : Guid} {o : Option ℕ} → length e ≡ 32 → known ≡ known_regions
+    → g ≡ guid_at e 0 → o ≡ row_of known (number g) → row_of known_regions (identifier e) ≡ o
 row_is e h p q s = sym (s ∙ ap₂ row_of p (identified e h q))
 
 returns : tie.Need-returns

@@ -8,17 +8,17 @@ use native.Mathlib.Omega.{arith}
 use borrow.Author.Tests.{not-true, not-false}
 use Rattle.decision.specs.Bounded.{every}
 use Rattle.decision.proofs.Laws.{every_more, every-end, every-not}
-use Rattle.vhdx_region.specs.Region.{entry, pairRule}
+use Rattle.vhdx_region.specs.Region.{entry, pair_rule}
 use borrow.Author.Rules.{rules}
 use Rattle.vhdx_region.proofs.table.stands_apart.Statement.{statement}
 use Rattle.vhdx_region.proofs.table.stands_apart.Tie as tie
 
 abbrev rule : List ℕ → ℕ → ℕ → Bool
-rule t i j = pairRule (entry t j) (entry t i)
+rule t i j = pair_rule (entry t j) (entry t i)
 
 -- what the code asks of two entries d and e
-asks : (t : List ℕ) (i j : ℕ) {d e : List ℕ} {b : Bool} → d ≡ entry t j → e ≡ entry t i → b ≡ pairRule d e → rule t i j ≡ b
-asks t i j p q r = sym (r ∙ ap₂ pairRule p q)
+asks : (t : List ℕ) (i j : ℕ) {d e : List ℕ} {b : Bool} → d ≡ entry t j → e ≡ entry t i → b ≡ pair_rule d e → rule t i j ≡ b
+asks t i j p q r = sym (r ∙ ap₂ pair_rule p q)
 
 abbrev invariant-loop : tie.invariant-loop
 invariant-loop t i e j₀ j = (j ≤ i) × (every j (rule t i) ≡ true)

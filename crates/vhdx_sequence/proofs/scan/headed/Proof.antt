@@ -7,7 +7,7 @@ use native.Mathlib.Nat.{mod-lt}
 use native.Mathlib.Omega.{arith}
 use lib.Dec.{leb}
 use borrow.Author.Rules.{rules}
-use Rattle.vhdx_entry.specs.Entry.{signatureRule}
+use Rattle.vhdx_entry.specs.Entry.{signature_rule}
 use Rattle.vhdx_sequence.specs.Scan.{away}
 use Rattle.vhdx_sequence.proofs.scan.headed.Statement.{statement}
 use Rattle.vhdx_sequence.proofs.scan.headed.Tie as tie
@@ -28,7 +28,7 @@ returns : tie.Need-returns
 returns c =
     let a = c.before.before.before.before.before.before.before.before.args in
     simp (
-      tested a.start.pos.len a.place.count a.start.count a.start.pos.at a.e.tail c.before.before.before.before.before.before.is-marked.result (signatureRule a.tail.now) c.before.before.before.before.before.away.result true c.before.before.before.before.before.before.is-marked.ensures c.before.before.before.before.before.before.before.before.requires.4 c.before.before.before.before.before.away.ensures c.before.before.if1.true,
+      tested a.start.pos.len a.place.count a.start.count a.start.pos.at a.e.tail c.before.before.before.before.before.before.is-marked.result (signature_rule a.tail.now) c.before.before.before.before.before.away.result true c.before.before.before.before.before.before.is-marked.ensures c.before.before.before.before.before.before.before.before.requires.4 c.before.before.before.before.before.away.ensures c.before.before.if1.true,
       c.minus.ensures,
       c.before.sequence-number.ensures,
     )
@@ -36,7 +36,7 @@ returns c =
 returns-2 : tie.Need-returns-2
 returns-2 c =
     let a = c.before.before.before.before.before.before.args in
-    simp (tested a.start.pos.len a.place.count a.start.count a.start.pos.at a.e.tail c.before.before.before.before.is-marked.result (signatureRule a.tail.now) c.before.before.before.away.result false c.before.before.before.before.is-marked.ensures c.before.before.before.before.before.before.requires.4 c.before.before.before.away.ensures c.if1.false)
+    simp (tested a.start.pos.len a.place.count a.start.count a.start.pos.at a.e.tail c.before.before.before.before.is-marked.result (signature_rule a.tail.now) c.before.before.before.away.result false c.before.before.before.before.is-marked.ensures c.before.before.before.before.before.before.requires.4 c.before.before.before.away.ensures c.if1.false)
 
 pub headed-spec : {M : Type 1} → statement M
 headed-spec =

@@ -4,18 +4,18 @@ use mathlib.Core.Path.{◌≡◌, refl, sym, ◌∙◌, subst}
 use Prim.Native.Nat.{◌+◌}
 use lib.ListN.{length, drop}
 use Rattle.vhdx_walk.specs.declared.Walk.{Walk}
-use Rattle.vhdx_walk.specs.Cursor.{descriptorsLeft}
-use Rattle.vhdx_walk.specs.Walk.{sectorsLeft, Ready, Settled, walkFrom, Following}
+use Rattle.vhdx_walk.specs.Cursor.{descriptors_left}
+use Rattle.vhdx_walk.specs.Walk.{sectors_left, Ready, Settled, walk_from, Following}
 use Rattle.vhdx_walk.proofs.Sectors.{from-ready, all-passed, past-run, settled-end, settled-sector, left-from}
 use borrow.Author.Rules.{rules}
 use Rattle.vhdx_walk.proofs.Walk.forward.Statement.{statement}
 use Rattle.vhdx_walk.proofs.Walk.forward.Tie as tie
 
 abbrev invariant-loop : tie.invariant-loop
-invariant-loop log k walk₀ left₀ walk left = Ready log walk × (drop left (sectorsLeft log walk) ≡ drop k (sectorsLeft log walk₀))
+invariant-loop log k walk₀ left₀ walk left = Ready log walk × (drop left (sectors_left log walk) ≡ drop k (sectors_left log walk₀))
 
 abbrev decreases-loop : tie.decreases-loop
-decreases-loop log k walk₀ left₀ walk left = length (descriptorsLeft log walk.cursor) + walk.cursor.left
+decreases-loop log k walk₀ left₀ walk left = length (descriptors_left log walk.cursor) + walk.cursor.left
 
 loop-holds : tie.Need-loop-init invariant-loop decreases-loop
 loop-holds c = (c.before.requires, refl)
@@ -28,9 +28,9 @@ returns c =
     let a = c.before.before.before.before.before.before.before.before.before.args in
     let at = c.before.before.before.before.before.before.before.loop in
     let none = subst (Following a.log.now at.walk.cursor) c.before.enum_told.given.1 c.before.before.before.load.ensures in
-    subst (λ (v : Walk). Ready a.log.now v × ((sectorsLeft a.log.now v ≡ drop a.k (sectorsLeft a.log.now a.self)) × Settled a.log.now v)) (sym c.from.ensures) (
+    subst (λ (v : Walk). Ready a.log.now v × ((sectors_left a.log.now v ≡ drop a.k (sectors_left a.log.now a.self)) × Settled a.log.now v)) (sym c.from.ensures) (
       from-ready a.log.now at.walk.cursor at.invariant.0.placed at.invariant.0.bounded,
-      (all-passed a.log.now at.walk at.invariant.1 c.before.before.before.before.before.if1.true none, settled-end a.log.now (walkFrom at.walk.cursor) (left-from a.log.now at.walk.cursor ∙ none)),
+      (all-passed a.log.now at.walk at.invariant.1 c.before.before.before.before.before.if1.true none, settled-end a.log.now (walk_from at.walk.cursor) (left-from a.log.now at.walk.cursor ∙ none)),
     )
 
 loop-less : tie.Need-loop-smaller invariant-loop decreases-loop

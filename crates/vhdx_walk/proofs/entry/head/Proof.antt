@@ -5,7 +5,7 @@ use Prim.Native.Nat.{ℕ, ◌-◌, ◌<◌}
 use native.Mathlib.Omega.{arith}
 use Rattle.vhdx_entry.specs.Ring.{On}
 use Rattle.vhdx_walk.specs.Entries.{head}
-use Rattle.vhdx_walk.specs.Bytes.{entriesFrom}
+use Rattle.vhdx_walk.specs.Bytes.{entries_from}
 use Rattle.vhdx_walk.specs.Cursor.{AllReadable}
 use Rattle.vhdx_walk.proofs.Moves.{first-readable, rest-readable}
 use Rattle.vhdx_walk.proofs.Chains.{head-onward, head-only}
@@ -17,7 +17,7 @@ abbrev invariant-loop : tie.invariant-loop
 invariant-loop log more pos₀ left₀ pos left =
     On log pos
     × AllReadable log pos.at left
-    × (head (entriesFrom log pos.at left) ≡ head (entriesFrom log pos₀.at left₀))
+    × (head (entries_from log pos.at left) ≡ head (entries_from log pos₀.at left₀))
 
 abbrev decreases-loop : tie.decreases-loop
 decreases-loop log more pos₀ left₀ pos left = left
@@ -36,7 +36,7 @@ loop-again c =
     let at = c.next.ensures.1 in (
       c.next.ensures.0,
       subst (λ (s : ℕ). AllReadable log s (l.left - 1)) (sym at) (rest-readable log l.pos.at l.left more l.invariant.1),
-      ap (λ (s : ℕ). head (entriesFrom log s (l.left - 1))) at ∙ sym (head-onward log l.pos.at l.left more) ∙ l.invariant.2,
+      ap (λ (s : ℕ). head (entries_from log s (l.left - 1))) at ∙ sym (head-onward log l.pos.at l.left more) ∙ l.invariant.2,
     )
 
 returns : tie.Need-returns invariant-loop decreases-loop

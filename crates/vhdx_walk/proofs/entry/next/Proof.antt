@@ -5,7 +5,7 @@ use Prim.Native.Nat.{ℕ, ◌+◌, ◌*◌, ◌/◌, ◌%◌}
 use native.Mathlib.Omega.{arith}
 use Rattle.vhdx_entry.specs.declared.ring.RingPos.{RingPos}
 use Rattle.vhdx_entry.specs.Ring.{ring}
-use Rattle.vhdx_entry.specs.Entry.{entryLength, size, behind}
+use Rattle.vhdx_entry.specs.Entry.{entry_length, size, behind}
 use Rattle.vhdx_walk.proofs.Parts.{same_count, size-within, size-read}
 use borrow.Author.Rules.{rules}
 use Rattle.vhdx_walk.proofs.entry.next.Statement.{statement}
@@ -17,7 +17,7 @@ advance-requires c κs =
     let a = s.args in
     let log = a.log.now in
     let by : c.entry_length.result / 4096 ≡ size (ring log a.pos.at) =
-    ap (λ (n : ℕ). n / 4096) (c.entry_length.ensures ∙ ap entryLength c.before.sector.ensures.0) ∙ size-read log a.pos s.requires.0 s.requires.1 in
+    ap (λ (n : ℕ). n / 4096) (c.entry_length.ensures ∙ ap entry_length c.before.sector.ensures.0) ∙ size-read log a.pos s.requires.0 s.requires.1 in
     (s.requires.0.0, omega (arith, size-within log a.pos s.requires.0 s.requires.1))
 
 returns : tie.Need-returns
@@ -26,7 +26,7 @@ returns c =
     let a = s.args in
     let log = a.log.now in
     let by : c.before.entry_length.result / 4096 ≡ size (ring log a.pos.at) =
-    ap (λ (n : ℕ). n / 4096) (c.before.entry_length.ensures ∙ ap entryLength c.before.before.sector.ensures.0)
+    ap (λ (n : ℕ). n / 4096) (c.before.entry_length.ensures ∙ ap entry_length c.before.before.sector.ensures.0)
     ∙ size-read log a.pos s.requires.0 s.requires.1 in
     let at : c.advance.result.at ≡ behind log a.pos.at =
     ap (λ (p : RingPos). p.at) c.advance.ensures.0

@@ -6,16 +6,16 @@ use mathlib.Core.Path.{◌≡◌, sym, ap, ◌∙◌}
 use Prim.Native.Nat.{ℕ, ◌+◌, ◌%◌}
 use native.Mathlib.Omega.{arith}
 use Rattle.vhdx_entry.specs.declared.Entry.{Entry}
-use Rattle.vhdx_entry.specs.Entry.{signatureRule, sequenceNumber}
+use Rattle.vhdx_entry.specs.Entry.{signature_rule, sequence_number_of}
 use Rattle.vhdx_sequence.specs.Sequence.{better}
-use Rattle.vhdx_sequence.specs.Scan.{State, state_of, headedBy, takenBy}
+use Rattle.vhdx_sequence.specs.Scan.{State, state_of, headed_by, taken_by}
 use Rattle.vhdx_sequence.specs.declared.Sequence.{Sequence}
 use Rattle.vhdx_sequence.specs.declared.lap.Place.{Place}
 use borrow.Author.Rules.{rules}
 use Rattle.vhdx_sequence.proofs.scan.Trace.take_by.Statement.{statement}
 use Rattle.vhdx_sequence.proofs.scan.Trace.take_by.Tie as tie
 
-made : (tail : List ℕ) (n u : ℕ) {r : ℕ} (st : State) (e : Entry) (start : Place) {q best : Option Sequence} → start.count ≡ r → start.pos.len ≡ n → q ≡ headedBy start.pos.len u start.count e (signatureRule tail) (sequenceNumber tail) → best ≡ better st.best q → ◌≡◌ {A = State} (record { start = start.count; next = u + e.size; number = e.number; best = best }) (takenBy n u r st e (signatureRule tail) (sequenceNumber tail))
+made : (tail : List ℕ) (n u : ℕ) {r : ℕ} (st : State) (e : Entry) (start : Place) {q best : Option Sequence} → start.count ≡ r → start.pos.len ≡ n → q ≡ headed_by start.pos.len u start.count e (signature_rule tail) (sequence_number_of tail) → best ≡ better st.best q → ◌≡◌ {A = State} (record { start = start.count; next = u + e.size; number = e.number; best = best }) (taken_by n u r st e (signature_rule tail) (sequence_number_of tail))
 made tail n u st e start a b d f = simp (f, d, a, b)
 
 headed-requires : tie.Need-headed-requires

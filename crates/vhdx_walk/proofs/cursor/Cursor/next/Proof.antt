@@ -4,7 +4,7 @@ use mathlib.Core.Path.{◌≡◌, ◌∙◌}
 use Prim.Native.Nat.{◌<◌}
 use native.Mathlib.Omega.{arith}
 use Rattle.vhdx_entry.specs.Ring.{ring}
-use Rattle.vhdx_entry.specs.Entry.{descriptorCount}
+use Rattle.vhdx_entry.specs.Entry.{descriptor_count}
 use Rattle.vhdx_entry.proofs.Laws.{in-first}
 use Rattle.vhdx_walk.proofs.Moves.{on-done, stands, reads as readable, to-entry}
 use borrow.Author.Rules.{rules}
@@ -48,7 +48,7 @@ returns-3 c =
     let a = s.args in
     let log = a.log.now in
     let more : 0 < a.self.left = omega arith in
-    let count : c.before.before.before.descriptor-count.result ≡ descriptorCount (ring log a.self.pos.at) =
+    let count : c.before.before.before.descriptor-count.result ≡ descriptor_count (ring log a.self.pos.at) =
     c.before.before.before.descriptor-count.ensures.0
     ∙ in-first log a.self.pos.len a.self.pos.at (stands log a.self s.requires more).on c.before.before.before.before.sector.ensures.0 24 4 (omega arith) in
     to-entry log a.self s.requires more c.next.result c.next.ensures.0 c.next.ensures.1 (omega arith)
