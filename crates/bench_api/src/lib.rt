@@ -1,5 +1,7 @@
 // What this project's own tests and benchmarks link: the checksum, and one sector of the plan of a log's work; in `tables` the
 // facts of an image. Not for other programs.
+#![tactic(auto)]
+
 pub mod tables;
 
 ghost use Rattle.std.specs.Prelude.{◌≡◌};

@@ -1,4 +1,6 @@
 // One bit of a bitmap, which is a run of bytes.
+#![tactic(auto)]
+
 ghost use Rattle.std.specs.Prelude.{◌≡◌, ◌<◌, length};
 ghost use Rattle.bitmap.specs.Bitmap.{bit_of, byte_of, lowest_first, bit as bit_in};
 

@@ -1,4 +1,6 @@
 // What C and Rust link: the calls over numbers and arrays. Each takes its arrays apart and makes the proved call.
+#![tactic(auto)]
+
 ghost use Rattle.std.specs.Prelude.{◌≡◌};
 ghost use Rattle.decision.specs.Refusal.{refusal_of};
 ghost use Rattle.vhdx_close_steps.specs.Close.{after_close, close_answer, after_close_step, close_step_answer};

@@ -1,5 +1,7 @@
 // CRC-32C, the checksum of VHDX: a state that takes runs of bytes one after the other, the checksum of a run, and the
 // checksum of a run that holds its own checksum.
+#![tactic(auto)]
+
 mod table;
 
 ghost use Rattle.std.specs.Prelude.{◌≡◌, min};

@@ -1,11 +1,13 @@
 // Ranges of bytes in a file, given by offset and length. No sum is formed that could wrap.
+#![tactic(auto)]
+
 ghost use Rattle.std.specs.Prelude.{◌≡◌, ◌+◌, ◌≤◌, ◌<◌, ◌^◌, length as length_of};
 ghost use Rattle.extent.specs.Extent.{whole_mib, inside, shares, in_bounds, overlap as overlapping, apart, shifted as shifted_by, nowhere as nowhere_at, part as part_of, onward};
 
 pub const MIB: u64 = 1048576;
 
 // Where a part of a file lies: the log, a region, an item.
-#[derive(Drop)]
+#[derive(Clone, Copy)]
 pub struct Extent {
     pub offset: u64,
     pub length: u64,

@@ -1,13 +1,15 @@
 // Fields of a slice of bytes: little-endian numbers of one, two, four and eight bytes, identifiers of 16 bytes, and a
 // run of bytes compared with a key.
 // Its module: `number`, a number as bytes.
+#![tactic(auto)]
+
 pub mod number;
 
 ghost use Rattle.std.specs.Prelude.{◌≡◌, ◌+◌, ◌≤◌, nat_eq, length, drop};
 ghost use Rattle.field.specs.Fields.{field, guid_at, number, starts};
 
 // An identifier of 16 bytes, as it is stored: its first and its last eight bytes, each a little-endian number.
-#[derive(Drop)]
+#[derive(Clone, Copy)]
 pub struct Guid {
     pub low: u64,
     pub high: u64,

@@ -1,4 +1,6 @@
 // Tables of identifiers, each as its 16 stored bytes.
+#![tactic(auto)]
+
 ghost use Rattle.std.specs.Prelude.{◌≡◌, ◌<◌, nat_eq, length};
 ghost use Rattle.decision.specs.Bounded.{found};
 ghost use Rattle.field.specs.Fields.{number};

@@ -2,6 +2,8 @@
 // descriptor's and Z for a zero descriptor's. On refusal N the one line is "refused N"; a file that cannot be read ends the output
 // with the line "unreadable". The file is only read, at most 64 KiB at a time.
 // Its modules: `window`, the bytes of the file that are at hand; `lines`, the output.
+#![tactic(auto)]
+
 mod lines;
 mod window;
 
@@ -16,7 +18,7 @@ use window::{Place, Window};
 const CAPACITY: u64 = 140737488355328;
 
 // What is asked for next, the bytes that are at hand, and whether all that was asked for could be read.
-#[derive(Drop)]
+#[derive(Clone, Copy)]
 struct State {
     turn: Turn,
     window: Window,

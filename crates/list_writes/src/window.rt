@@ -12,7 +12,7 @@ const ENXIO: i32 = 6;
 
 // The first `count` bytes of the buffer are the file's from `at` on. Or the file has a hole of `hole` bytes there, and the buffer is
 // zeros.
-#[derive(Drop)]
+#[derive(Clone, Copy)]
 pub struct Window {
     pub at: u64,
     pub count: usize,
@@ -20,7 +20,7 @@ pub struct Window {
 }
 
 // Where in the buffer it starts, or that it is not there whole.
-#[derive(Drop)]
+#[derive(Clone, Copy)]
 pub enum Place {
     At(usize),
     Missing,

@@ -1,4 +1,6 @@
 // Small arithmetic that no sum or difference wraps in.
+#![tactic(auto)]
+
 ghost use Rattle.std.specs.Prelude.{◌≡◌, ◌+◌, ◌-◌, min, max};
 ghost use Rattle.number.specs.Number.{capped};
 

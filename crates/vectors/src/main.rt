@@ -1,5 +1,7 @@
 // Outside vectors and boundary cases, run and printed. What is printed is compared with the file stdout, which holds
 // what the documents say.
+#![tactic(auto)]
+
 mod headers;
 mod image;
 mod report;

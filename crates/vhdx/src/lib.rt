@@ -1,6 +1,8 @@
 // The seven calls of the library: attach, the plan that it follows, a single step of the replay, closing the log, a single step of
 // that, lookup, parent key. None has a `requires`: a caller may hand in any buffer, length, step, identifier, sector, facts and key.
 // Attach, close and their steps write, and write through `vhdx_replay::store` alone.
+#![tactic(auto)]
+
 ghost use Rattle.std.specs.Prelude.{◌≡◌, ◌≤◌, length as length_of, take};
 ghost use Rattle.extent.specs.Extent.{mib, part as part_of, onward};
 ghost use Rattle.vhdx_close_steps.specs.Close.{after_close, close_answer, after_close_step, close_step_answer};
@@ -18,7 +20,7 @@ use vhdx_facts::Facts;
 use vhdx_log::Work;
 use vhdx_steps::Stepped;
 
-#[derive(Drop)]
+#[derive(Clone, Copy)]
 pub struct Attached {
     // document 01's number, or 0
     pub refusal: u64,
@@ -30,7 +32,7 @@ pub struct Attached {
     pub facts: Facts,
 }
 
-#[derive(Drop)]
+#[derive(Clone, Copy)]
 pub struct Planned {
     // document 01's number, 1 to 8, or 0
     pub refusal: u64,

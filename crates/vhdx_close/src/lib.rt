@@ -1,4 +1,6 @@
 // Closing a log for good (change request Q-6): the log's work as attach does it, then the header that is not current rewritten.
+#![tactic(auto)]
+
 ghost use Rattle.std.specs.Prelude.{◌≡◌, ◌+◌};
 ghost use Rattle.decision.specs.Refusal.{refusal_of};
 ghost use Rattle.vhdx_header.specs.declared.Answer.TheVariants.{Current};
@@ -15,7 +17,7 @@ use vhdx_log::Work;
 use vhdx_steps::Stepped;
 
 // The log's work, and whether the header is written behind it.
-#[derive(Drop)]
+#[derive(Clone, Copy)]
 pub struct Job {
     pub work: Work,
     pub log: Extent,
@@ -24,7 +26,7 @@ pub struct Job {
     pub rewrite: bool,
 }
 
-#[derive(Drop)]
+#[derive(Clone, Copy)]
 pub enum Task {
     // the refusal's number
     Refused(u64),
@@ -32,7 +34,7 @@ pub enum Task {
 }
 
 // What comes after the last sector.
-#[derive(Drop)]
+#[derive(Clone, Copy)]
 pub enum Ending {
     // the log identifier is zero
     Nothing,

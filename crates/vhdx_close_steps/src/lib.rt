@@ -1,7 +1,8 @@
 // Closing a log (change request Q-6) as steps: its plan, lists of its calls, what interrupted ones and power failures leave, and the
 // theorems about them. There is no code but for what closing answers.
+#![tactic(auto)]
 
-#[derive(Drop)]
+#[derive(Clone, Copy)]
 pub struct Closed {
     // the refusal's number, or 0
     pub refusal: u64,

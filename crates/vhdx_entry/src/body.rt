@@ -10,7 +10,7 @@ use crate::ring::RingPos;
 use crate::{descriptor, header, ring};
 
 // Of descriptors that should keep their rule: how many were asked for, or that one breaks it.
-#[derive(Drop)]
+#[derive(Clone, Copy)]
 pub enum Tally {
     Whole(usize),
     Broken,

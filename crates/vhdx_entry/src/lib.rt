@@ -1,6 +1,8 @@
 // A log entry: whether a valid one starts at a position of the log's ring, and what it says.
 // Its modules: `ring`, positions and sectors of the ring; `header` and `descriptor`, the parts of an entry, each given as its
 // bytes; `body`, an entry's descriptors, data sectors and checksum, which may run past the ring's end.
+#![tactic(auto)]
+
 pub mod body;
 pub mod descriptor;
 pub mod header;
@@ -13,7 +15,7 @@ ghost use Rattle.vhdx_entry.specs.Entry.{entry_at, slot_of};
 use ring::RingPos;
 
 // What log sequences are made by: an entry's length and its Tail, in sectors, and its sequence number.
-#[derive(Drop)]
+#[derive(Clone, Copy)]
 pub struct Entry {
     pub size: usize,
     pub number: u64,
@@ -21,7 +23,7 @@ pub struct Entry {
 }
 
 // What starts at a position: a valid entry, or none.
-#[derive(Drop)]
+#[derive(Clone, Copy)]
 pub enum Slot {
     Valid(Entry),
     Empty,

@@ -5,7 +5,7 @@ ghost use Rattle.vhdx_entry.specs.Ring.{sector_at, advanced, offset_in, On};
 pub const SECTOR: usize = 4096;
 
 // A position in a ring of `len` sectors.
-#[derive(Drop)]
+#[derive(Clone, Copy)]
 pub struct RingPos {
     pub at: usize,
     pub len: usize,

@@ -1,5 +1,7 @@
 // The facts of a disk, the ranges of its sizes, and the layout of its block allocation table.
 // Its modules: `ranges`, which sizes a disk may have; `geometry`, how many blocks, chunks and entries there are, and where.
+#![tactic(auto)]
+
 pub mod geometry;
 pub mod ranges;
 
@@ -9,7 +11,7 @@ ghost use Rattle.vhdx_facts.specs.Ranges.{no_facts};
 use extent::Extent;
 
 // What attaching a file answers of it. A caller may hand back any numbers as facts, so all have 64 bits.
-#[derive(Drop)]
+#[derive(Clone, Copy)]
 pub struct Facts {
     pub logical_sector_size: u64,
     pub physical_sector_size: u64,

@@ -1,4 +1,6 @@
 // Whether facts that a caller hands in fit the image that comes with them: document 01's refusal 16.
+#![tactic(auto)]
+
 ghost use Rattle.std.specs.Prelude.{◌≡◌};
 ghost use Rattle.vhdx_fit.specs.Fit.{regions_fit, locator_fits, parent_fits, facts_fit, fits as fits_rule};
 

@@ -6,7 +6,7 @@ ghost use Rattle.vhdx_header.specs.Current.{header_at, chosen_slot, current_slot
 use crate::{Answer, fields};
 
 // Which of the two headers is the current one.
-#[derive(Drop)]
+#[derive(Clone, Copy)]
 pub enum Slot {
     Neither,
     First,

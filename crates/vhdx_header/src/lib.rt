@@ -1,12 +1,14 @@
 // The current header of a VHDX file, which says where its log is, or the refusal: document 01's 1 to 4.
 // Its modules: `fields`, one header by itself; `choice`, which of the two headers is current.
+#![tactic(auto)]
+
 pub mod choice;
 pub mod fields;
 
 ghost use Rattle.std.specs.Prelude.{◌≡◌};
 ghost use Rattle.vhdx_header.specs.Current.{current_header, within_image};
 
-#[derive(Drop)]
+#[derive(Clone, Copy)]
 pub struct Header {
     // where it stands: 65,536 or 131,072
     pub slot: u64,
@@ -16,7 +18,7 @@ pub struct Header {
     pub log_length: u64,
 }
 
-#[derive(Drop)]
+#[derive(Clone, Copy)]
 pub enum Answer {
     // document 01's number
     Refused(u64),

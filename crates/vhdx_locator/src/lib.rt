@@ -1,5 +1,7 @@
 // The parent locator, given as its item's bytes: its rule, and where the value of a key lies.
 // Its module `entry`: one entry by its number.
+#![tactic(auto)]
+
 mod entry;
 
 ghost use Rattle.std.specs.Prelude.{true, ◌≡◌, ◌≤◌, length};

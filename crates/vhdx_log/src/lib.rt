@@ -1,5 +1,7 @@
 // The log's work, planned before anything is written, or the refusal: document 01's 1 to 8.
 // Its modules: `survey`, what a sequence's descriptors say together; `decide`, refusals 6 to 8; `number`, sums and maxima.
+#![tactic(auto)]
+
 pub mod decide;
 pub mod number;
 pub mod survey;
@@ -18,14 +20,14 @@ use vhdx_walk::cursor::Cursor;
 
 // What is to be done: grow the image to this length, then write so many sectors, those of the descriptors that the cursor
 // has before it.
-#[derive(Drop)]
+#[derive(Clone, Copy)]
 pub struct Work {
     pub length: u64,
     pub count: u64,
     pub cursor: Cursor,
 }
 
-#[derive(Drop)]
+#[derive(Clone, Copy)]
 pub enum Answer {
     // document 01's number
     Refused(u64),

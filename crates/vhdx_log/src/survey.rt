@@ -9,7 +9,7 @@ use vhdx_walk::cursor::{Cursor, Move};
 use vhdx_walk::run::Run;
 
 // An end or a count above 2^64 - 1 stands as 2^64 - 1.
-#[derive(Drop)]
+#[derive(Clone, Copy)]
 pub struct Survey {
     // some sector shares a byte with the first MiB or the log
     pub lies: bool,

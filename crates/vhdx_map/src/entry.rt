@@ -3,7 +3,7 @@ ghost use Rattle.std.specs.Prelude.{◌≡◌};
 ghost use Rattle.vhdx_map.specs.Entry.{state, offset_of, meaning, stored_rule, bitmap_rule};
 
 // What a payload block's entry says of its sectors.
-#[derive(Drop)]
+#[derive(Clone, Copy)]
 pub enum Meaning {
     ReadsZero,
     ReadsParent,

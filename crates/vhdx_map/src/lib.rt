@@ -1,6 +1,8 @@
 // From a sector of a disk to where its bytes are: document 01's lookup, refusals 16 to 20. The facts are any numbers. One BAT
 // entry is read and, of a partially present block, one bitmap entry and one byte of the bitmap.
 // Its modules: `sector`, where a sector stands; `bat`, its BAT entries; `entry`, what one says.
+#![tactic(auto)]
+
 mod bat;
 mod entry;
 mod sector;
@@ -16,7 +18,7 @@ use entry::Meaning;
 use extent::Extent;
 use vhdx_facts::{Facts, geometry};
 
-#[derive(Drop)]
+#[derive(Clone, Copy)]
 pub enum Answer {
     // document 01's number
     Refused(u64),

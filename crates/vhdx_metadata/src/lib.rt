@@ -1,6 +1,8 @@
 // The metadata of a VHDX file, given as its metadata region: the needed items' values, or the refusal: document 01's 12 and 13.
 // Its modules: `known`, the six known system identifiers with their lengths; `location`, where an item may lie; `entry`, one entry
 // of the table; `table`, all of them; `item`, the known items.
+#![tactic(auto)]
+
 mod entry;
 mod item;
 mod known;
@@ -15,7 +17,7 @@ ghost use Rattle.vhdx_metadata.specs.Items.{needed_rule, contents as contents_of
 use extent::Extent;
 
 // What the items say. The locator's extent is in the region, and nowhere if there is no such item.
-#[derive(Drop)]
+#[derive(Clone, Copy)]
 pub struct Items {
     pub block_size: u64,
     pub has_parent: bool,
@@ -26,7 +28,7 @@ pub struct Items {
     pub locator: Extent,
 }
 
-#[derive(Drop)]
+#[derive(Clone, Copy)]
 pub enum Answer {
     // document 01's number
     Refused(u64),

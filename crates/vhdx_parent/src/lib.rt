@@ -1,4 +1,6 @@
 // The value of a key of the parent locator: document 01's parent key. The facts are any numbers, the key any bytes.
+#![tactic(auto)]
+
 ghost use Rattle.std.specs.Prelude.{◌≡◌, ◌+◌, ◌≤◌, ◌<◌, ◌^◌, length as length_of};
 ghost use Rattle.extent.specs.Extent.{part as part_of, onward};
 ghost use Rattle.vhdx_parent.specs.Key.{within, in_locator, key_extent};

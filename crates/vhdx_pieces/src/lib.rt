@@ -1,5 +1,7 @@
 // The log's work in pieces: a machine says which bytes of the file it wants, to which length the file is to grow, or that a sector is to
 // be written. It is handed in again when they are there or it is done, and handed back moved.
+#![tactic(auto)]
+
 ghost use Rattle.std.specs.Prelude.{List, ◌≡◌, ℕ, ◌+◌, ◌≤◌, ◌<◌, length as length_of};
 ghost use Rattle.vhdx_pieces_plan.specs.Planning.{sectors_of, OrderFor, Ordered, Kept as PlanKept};
 ghost use Rattle.vhdx_pieces_walk.specs.declared.Step.TheVariants.{Write};
@@ -12,14 +14,14 @@ use vhdx_pieces_plan::{Order, Outcome, Planner};
 use vhdx_pieces_walk::{Bounds, Walker};
 
 // An order that is being done, with the number of its sectors that are not written yet.
-#[derive(Drop)]
+#[derive(Clone, Copy)]
 pub struct Doing {
     pub order: Order,
     pub walker: Walker,
     pub unwritten: u64,
 }
 
-#[derive(Drop)]
+#[derive(Clone, Copy)]
 pub enum Machine {
     Planning(Planner),
     Growing(Order),
@@ -28,14 +30,14 @@ pub enum Machine {
 }
 
 // The final length, and how many sectors were written.
-#[derive(Drop)]
+#[derive(Clone, Copy)]
 pub struct Finish {
     pub length: u64,
     pub count: u64,
 }
 
 // What is asked for. Whatever is asked of the machine that it hands out, that is to be done before it is handed in again.
-#[derive(Drop)]
+#[derive(Clone, Copy)]
 pub enum Turn {
     // bytes of the file are wanted
     Read(Machine),

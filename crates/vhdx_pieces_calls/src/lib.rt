@@ -1,4 +1,6 @@
 // The log's work in pieces for callers of any language: the machine is 64 numbers, whatever they are, and what it asks for is three.
+#![tactic(auto)]
+
 ghost use Rattle.std.specs.Prelude.{◌≡◌, length as length_of, take};
 ghost use Rattle.vhdx_pieces.specs.Machines.{Sane, Kept, is_data_of, started};
 ghost use Rattle.vhdx_pieces_slots.specs.Loading.{loaded};
@@ -11,7 +13,7 @@ use vhdx_replay::store;
 
 // The kind: 0 refused, 1 read, 2 grow, 3 write, 4 done, 5 no machine has these numbers. Then the refusal's number; the offset and
 // how many bytes; the length; the offset and whether it is a data descriptor's; the final length and the count.
-#[derive(Drop)]
+#[derive(Clone, Copy)]
 pub struct Request {
     pub kind: u64,
     pub first: u64,

@@ -1,6 +1,8 @@
 // A log entry read sector by sector, each sector once: structure and checksum in one pass. A reading is handed in with the next
 // sector, and handed back moved.
 // Its module: `sector`, the descriptors that stand in one sector.
+#![tactic(auto)]
+
 pub mod sector;
 
 ghost use Rattle.std.specs.Prelude.{◌≡◌, ◌+◌, ◌≤◌, ◌<◌, min, length};
@@ -11,7 +13,7 @@ use vhdx_entry::{Entry, body, descriptor, header};
 
 // What the header says: the entry's number, its Tail in sectors, how many descriptors it has, its length in bytes, its checksum.
 // What was read: descriptors seen, data descriptors among them, sectors, and the checksum's state.
-#[derive(Drop)]
+#[derive(Clone, Copy)]
 pub struct Reading {
     pub number: u64,
     pub tail: usize,
@@ -25,7 +27,7 @@ pub struct Reading {
 }
 
 // A further sector is wanted, or what starts at the first one: a valid entry, or none.
-#[derive(Drop)]
+#[derive(Clone, Copy)]
 pub enum Progress {
     More(Reading),
     Valid(Entry),

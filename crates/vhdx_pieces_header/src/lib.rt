@@ -1,4 +1,6 @@
 // The current header in pieces: the identifier's 8 bytes, then each header's 4,096.
+#![tactic(auto)]
+
 ghost use Rattle.std.specs.Prelude.{◌≡◌, ◌+◌, ◌≤◌, length as length_of};
 ghost use Rattle.vhdx_pieces_header.specs.Finding.{offset_of, size_of, started, identified as identified_by, step_of, candidate_of, judged as judged_of, chosen as chosen_of};
 
@@ -6,7 +8,7 @@ use vhdx_header::choice::Slot;
 use vhdx_header::{Answer, Header, choice, fields};
 
 // A header that was read: whether it is valid, whether its fields keep the rules that they alone decide, and what it holds.
-#[derive(Drop)]
+#[derive(Clone, Copy)]
 pub struct Candidate {
     pub valid: bool,
     pub rules: bool,
@@ -14,14 +16,14 @@ pub struct Candidate {
 }
 
 // What is wanted next. Of the first header is kept what it says.
-#[derive(Drop)]
+#[derive(Clone, Copy)]
 pub enum Stage {
     Identifier,
     First,
     Second(Candidate),
 }
 
-#[derive(Drop)]
+#[derive(Clone, Copy)]
 pub enum Step {
     Read(Stage),
     Ended(Answer),

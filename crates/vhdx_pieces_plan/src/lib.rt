@@ -1,5 +1,7 @@
 // The log's work planned in pieces, or the refusal 1 to 8: a planner says which bytes of the file it wants, is handed in with them, and
 // handed back moved. It goes through the current header, the scan for the active sequence, the survey of it, and decides.
+#![tactic(auto)]
+
 ghost use Rattle.std.specs.Prelude.{◌≡◌, ◌+◌, ◌≤◌, ◌<◌, length as length_of};
 ghost use Rattle.vhdx_pieces_plan.specs.Planning.{sectors_of, sector_in, Sane, Kept, wanted_of, started, headed, answered, with_header, with_log, scanned, sought, toured, judged as judged_of, step_of};
 
@@ -12,7 +14,7 @@ use vhdx_pieces_survey::{Report, Tour};
 use vhdx_sequence::{Found, Sequence};
 
 // The file's length, the stated capacity, where the log lies and its identifier, as soon as they are known.
-#[derive(Drop)]
+#[derive(Clone, Copy)]
 pub struct Context {
     pub length: u64,
     pub capacity: u64,
@@ -21,20 +23,20 @@ pub struct Context {
 }
 
 // A found sequence that is surveyed.
-#[derive(Drop)]
+#[derive(Clone, Copy)]
 pub struct Surveying {
     pub found: Sequence,
     pub tour: Tour,
 }
 
-#[derive(Drop)]
+#[derive(Clone, Copy)]
 pub enum Phase {
     Header(vhdx_pieces_header::Stage),
     Scan(Scanner),
     Survey(Surveying),
 }
 
-#[derive(Drop)]
+#[derive(Clone, Copy)]
 pub struct Planner {
     pub context: Context,
     pub phase: Phase,
@@ -42,7 +44,7 @@ pub struct Planner {
 
 // What is to be done: the final length, how many sectors are to be written, and where their descriptors are: `left` entries of the
 // log from sector `start` on.
-#[derive(Drop)]
+#[derive(Clone, Copy)]
 pub struct Order {
     pub length: u64,
     pub count: u64,
@@ -51,14 +53,14 @@ pub struct Order {
     pub left: u64,
 }
 
-#[derive(Drop)]
+#[derive(Clone, Copy)]
 pub enum Outcome {
     // document 01's number
     Refused(u64),
     Apply(Order),
 }
 
-#[derive(Drop)]
+#[derive(Clone, Copy)]
 pub enum Step {
     // bytes of the file are wanted
     Read(Planner),

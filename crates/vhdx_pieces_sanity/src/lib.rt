@@ -1,5 +1,7 @@
 // What a machine keeps to, tested: of a machine that came from outside nothing is known.
 // Its modules: `ring`, `planner`, `walker`, the parts of a machine.
+#![tactic(auto)]
+
 mod planner;
 mod ring;
 mod walker;

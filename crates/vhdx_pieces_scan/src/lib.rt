@@ -1,5 +1,7 @@
 // The scan for the active log sequence, in pieces: a scanner says which sector of the log it wants, is handed in with that sector,
 // and handed back moved. It is `vhdx_sequence::active`'s loop, opened at each sector that it reads.
+#![tactic(auto)]
+
 ghost use Rattle.std.specs.Prelude.{◌≡◌, ◌≤◌, ◌<◌, length};
 ghost use Rattle.vhdx_sequence.specs.Scan.{Placed, state_of, fresh};
 ghost use Rattle.vhdx_pieces_scan.specs.Scanning.{Upright, Sane, Onward, scanner_at, wanted_of, resumed, progressed, taking, step_of};
@@ -12,21 +14,21 @@ use vhdx_sequence::lap::Place;
 use vhdx_sequence::scan::Trace;
 
 // At a place: what starts there is to be read, is being read, or is an entry whose Tail's sector is wanted.
-#[derive(Drop)]
+#[derive(Clone, Copy)]
 pub enum Stage {
     First,
     Inside(Reading),
     Tail(Entry),
 }
 
-#[derive(Drop)]
+#[derive(Clone, Copy)]
 pub struct Scanner {
     pub trace: Trace,
     pub place: Place,
     pub stage: Stage,
 }
 
-#[derive(Drop)]
+#[derive(Clone, Copy)]
 pub enum Step {
     // a sector is wanted
     Sector(Scanner),

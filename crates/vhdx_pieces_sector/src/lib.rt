@@ -1,4 +1,6 @@
 // The sector that a walker has to write: where it stands in the file, the kind of its descriptor, and its bytes.
+#![tactic(auto)]
+
 ghost use Rattle.std.specs.Prelude.{List, ◌≡◌, ℕ, length};
 ghost use Rattle.vhdx_pieces_walk.specs.Walking.{written_of, data_sector};
 ghost use Rattle.vhdx_pieces_sector.specs.Written.{is_data_of};

@@ -1,5 +1,7 @@
 // A machine of the log's work in pieces as 64 numbers, as programs in other languages hold it between two calls.
 // Its modules: `writing`, the parts of a machine into their slots; `reading`, out of them.
+#![tactic(auto)]
+
 mod reading;
 mod writing;
 
@@ -10,7 +12,7 @@ ghost use Rattle.vhdx_pieces_slots.specs.Loading.{same, loaded, Sound};
 use vhdx_pieces::Machine;
 
 // What stands in an array of 64 numbers.
-#[derive(Drop)]
+#[derive(Clone, Copy)]
 pub enum Loaded {
     Known(Machine),
     // numbers that no machine has

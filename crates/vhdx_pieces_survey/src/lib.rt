@@ -1,5 +1,7 @@
 // What a found sequence's descriptors and its head say, in pieces: a tour over the entries says which sector of the log it wants, is
 // handed in with that sector, and handed back moved. Only sectors with descriptors are read, each once.
+#![tactic(auto)]
+
 ghost use Rattle.std.specs.Prelude.{◌≡◌, ◌+◌, ◌*◌, ◌≤◌, ◌<◌, length};
 ghost use Rattle.vhdx_pieces_survey.specs.Touring.{Sane, Opened, Full, Onward, wanted_of, started, survey_in, added_by, moved_on, passed, opened as opened_of, step_of};
 
@@ -12,7 +14,7 @@ use vhdx_walk::run::{Run, Source};
 
 // In the entry at a position, with `left` entries from it on: its descriptors and sectors, how many descriptors were seen and how
 // many of its sectors were read; before the first, its header is wanted. Of the last header read, two offsets. And the survey.
-#[derive(Drop)]
+#[derive(Clone, Copy)]
 pub struct Tour {
     pub pos: RingPos,
     pub left: u64,
@@ -26,14 +28,14 @@ pub struct Tour {
 }
 
 // What the tour comes to: the head's two offsets, and the survey of all descriptors.
-#[derive(Drop)]
+#[derive(Clone, Copy)]
 pub struct Report {
     pub flushed: u64,
     pub last: u64,
     pub found: Survey,
 }
 
-#[derive(Drop)]
+#[derive(Clone, Copy)]
 pub enum Step {
     // a sector is wanted
     Sector(Tour),

@@ -1,5 +1,7 @@
 // The walk over a found sequence's sectors in pieces, in the order in which they are written: a walker wants a sector of the log, or has
 // a sector to write. It is handed in with the sector that it wanted, or after the write, and handed back moved.
+#![tactic(auto)]
+
 ghost use Rattle.std.specs.Prelude.{◌≡◌, ◌+◌, ◌*◌, ◌≤◌, ◌<◌, length};
 ghost use Rattle.vhdx_pieces_walk.specs.Walking.{Opened, SaneReading, SaneWriting, Onward, wanted_of, started, staged, resumed, idle_from, past_by, allowed, beyond_by, met, looked, opened as opened_of, step_of, wrote_of};
 
@@ -9,7 +11,7 @@ use vhdx_entry::{descriptor, header};
 use vhdx_pieces_entry::sector as bytes;
 
 // The log's place in the file, and the file's final length.
-#[derive(Drop)]
+#[derive(Clone, Copy)]
 pub struct Bounds {
     pub log: Extent,
     pub limit: u64,
@@ -17,7 +19,7 @@ pub struct Bounds {
 
 // A data descriptor that was met: its file offset, its LeadingBytes and TrailingBytes as numbers, and how many data descriptors stand
 // before it in its entry.
-#[derive(Drop)]
+#[derive(Clone, Copy)]
 pub struct Held {
     pub offset: u64,
     pub leading: u64,
@@ -25,7 +27,7 @@ pub struct Held {
     pub rank: usize,
 }
 
-#[derive(Drop)]
+#[derive(Clone, Copy)]
 pub enum Stage {
     // an entry's first sector is wanted
     Header,
@@ -41,7 +43,7 @@ pub enum Stage {
 
 // In the entry at a position, with `left` entries from it on: its descriptors and sectors, the next descriptor's number, and how many
 // data descriptors stand before that one.
-#[derive(Drop)]
+#[derive(Clone, Copy)]
 pub struct Walker {
     pub pos: RingPos,
     pub left: u64,
@@ -52,7 +54,7 @@ pub struct Walker {
     pub stage: Stage,
 }
 
-#[derive(Drop)]
+#[derive(Clone, Copy)]
 pub enum Step {
     Read(Walker),
     Write(Walker),

@@ -1,5 +1,7 @@
 // The regions of a VHDX file, found in its region table, or the refusal: document 01's 9 to 11.
 // Its modules: `known`, the identifiers; `location`, where a region may lie; `entry`, one entry; `table`, one copy of the table.
+#![tactic(auto)]
+
 mod entry;
 mod known;
 pub mod location;
@@ -12,13 +14,13 @@ ghost use Rattle.vhdx_region.specs.Region.{table_at, valid_table, read_table, re
 use decision::Index;
 use extent::Extent;
 
-#[derive(Drop)]
+#[derive(Clone, Copy)]
 pub struct Regions {
     pub bat: Extent,
     pub metadata: Extent,
 }
 
-#[derive(Drop)]
+#[derive(Clone, Copy)]
 pub enum Answer {
     // document 01's number
     Refused(u64),

@@ -1,6 +1,8 @@
 // The steps of the log's work. `grow` and `sector::write` are the only functions here that change a buffer: growth with zeros,
 // and one sector a call.
 // Its modules: `store`, bytes into a buffer; `sector`, the write of one sector.
+#![tactic(auto)]
+
 mod sector;
 pub mod store;
 

@@ -1,4 +1,6 @@
 // The header that closing a log writes, and its write (change request Q-6).
+#![tactic(auto)]
+
 ghost use Rattle.std.specs.Prelude.{◌≡◌, ◌+◌, ◌<◌, length as length_of, replicate};
 ghost use Rattle.vhdx_header.specs.Header.{sequence_number_of};
 ghost use Rattle.vhdx_header.specs.Current.{header_at, first_mib, other_slot};

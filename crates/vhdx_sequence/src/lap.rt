@@ -5,7 +5,7 @@ ghost use Rattle.vhdx_sequence.specs.Scan.{moved, away as away_of};
 use vhdx_entry::ring::RingPos;
 
 // A position in the ring, and how many sectors on from the log's first sector it was reached, laps counted.
-#[derive(Drop)]
+#[derive(Clone, Copy)]
 pub struct Place {
     pub pos: RingPos,
     pub count: usize,

@@ -1,6 +1,8 @@
 // The active log sequence: of all lists of entries in the log's ring that are log sequences, the one that is to be replayed.
 // Its modules: `lap`, places on the way over the ring; `order`, which of two sequences is preferred; `scan`, the state of the
 // one way over the ring that finds the active one.
+#![tactic(auto)]
+
 pub mod lap;
 mod order;
 pub mod scan;
@@ -12,14 +14,14 @@ use scan::Trace;
 use vhdx_entry::Slot;
 
 // A log sequence: its first sector, how many entries follow its first, and its head's number.
-#[derive(Drop)]
+#[derive(Clone, Copy)]
 pub struct Sequence {
     pub start: usize,
     pub more: u64,
     pub number: u64,
 }
 
-#[derive(Drop)]
+#[derive(Clone, Copy)]
 pub enum Found {
     At(Sequence),
     Nothing,

@@ -11,7 +11,7 @@ use vhdx_entry::{Entry, header, ring};
 
 // A run is a list of valid entries, each starting where the one before ended, numbers rising by one. `start` is the place where
 // the present run began, `next` the count of the place where its last entry ends, `number` that entry's number.
-#[derive(Drop)]
+#[derive(Clone, Copy)]
 pub struct Trace {
     pub start: Place,
     pub next: usize,

@@ -1,4 +1,6 @@
 // The facts as numbers in an array of 32, as programs in other languages hold them: slots 3 to 15.
+#![tactic(auto)]
+
 ghost use Rattle.std.specs.Prelude.{◌≡◌};
 ghost use Rattle.vhdx_slots.specs.Slots.{bit, facts_in, facts_from};
 

@@ -1,8 +1,9 @@
 // The log's work on a file, step by step: definitions of the steps, of what torn and interrupted ones and power failures leave, and laws
 // about them, which the crates that replay and close a log share. There is no code but for what a step answers.
+#![tactic(auto)]
 
 // What a call that does one step answers.
-#[derive(Drop)]
+#[derive(Clone, Copy)]
 pub struct Stepped {
     // the refusal's number, or 0
     pub refusal: u64,

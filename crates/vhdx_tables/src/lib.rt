@@ -1,4 +1,6 @@
 // The facts of a VHDX file whose log is applied, read from its tables, or the refusal: document 01's 9 to 15.
+#![tactic(auto)]
+
 ghost use Rattle.std.specs.Prelude.{◌&&◌, ◌≡◌, ◌+◌, ◌%◌, ◌≤◌, ◌<◌, ◌^◌, length as length_of};
 ghost use Rattle.decision.specs.Refusal.{refused as refused_by, answered as answered_by};
 ghost use Rattle.extent.specs.Extent.{mib};
@@ -10,7 +12,7 @@ use vhdx_facts::{Facts, geometry, ranges};
 use vhdx_metadata::Items;
 use vhdx_region::Regions;
 
-#[derive(Drop)]
+#[derive(Clone, Copy)]
 pub struct Reading {
     // document 01's number, or 0
     pub refusal: u64,

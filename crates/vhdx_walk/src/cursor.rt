@@ -11,7 +11,7 @@ use vhdx_entry::{descriptor, header, ring};
 
 // The entry at a position and those after it, `left` in all. Of that entry `index` is the next descriptor, and `data`
 // counts the data descriptors before it.
-#[derive(Drop)]
+#[derive(Clone, Copy)]
 pub struct Cursor {
     pub pos: RingPos,
     pub left: u64,
@@ -19,7 +19,7 @@ pub struct Cursor {
     pub data: usize,
 }
 
-#[derive(Drop)]
+#[derive(Clone, Copy)]
 pub enum Move {
     Done,
     // an entry is done

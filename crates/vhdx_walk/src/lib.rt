@@ -2,6 +2,8 @@
 // moved; a run of sectors is passed as a whole, whatever its length.
 // Its modules: `run`, a descriptor's sectors; `entry`, from an entry to the next and to the head; `cursor`, the walk over a
 // sequence's descriptors.
+#![tactic(auto)]
+
 pub mod cursor;
 pub mod entry;
 pub mod run;
@@ -16,27 +18,27 @@ use cursor::{Cursor, Move};
 use run::{Run, Source};
 
 // The rest of a run of sectors, and the cursor behind the run's descriptor.
-#[derive(Drop)]
+#[derive(Clone, Copy)]
 pub struct Walk {
     pub run: Run,
     pub cursor: Cursor,
 }
 
 // A sector to write: its offset in the file, and where its bytes are.
-#[derive(Drop)]
+#[derive(Clone, Copy)]
 pub struct SectorWrite {
     pub offset: u64,
     pub source: Source,
 }
 
-#[derive(Drop)]
+#[derive(Clone, Copy)]
 pub enum Next {
     Sector(SectorWrite),
     End,
 }
 
 // What follows from a cursor on.
-#[derive(Drop)]
+#[derive(Clone, Copy)]
 enum Loaded {
     At(Walk),
     Nothing,

@@ -11,14 +11,14 @@ use vhdx_entry::{descriptor, ring};
 
 // Where the bytes of a run's sectors are: nowhere, or in the log, by the offsets in it of a data descriptor and its data
 // sector.
-#[derive(Drop)]
+#[derive(Clone, Copy)]
 pub enum Source {
     Zeros,
     Data { descriptor: usize, sector: usize },
 }
 
 // The length is in bytes: a data descriptor's is 4,096.
-#[derive(Drop)]
+#[derive(Clone, Copy)]
 pub struct Run {
     pub offset: u64,
     pub length: u64,

@@ -1,0 +1,6 @@
+-- `crc32c::update` meets its contract, by that of `run`.
+use borrow.Author.Rules.{rules}
+use Rattle.crc32c.proofs.update.Goals as goal
+
+pub returns : goal.returns
+returns c = c.run.ensures

@@ -1,0 +1,8 @@
+-- `field::number::bytes4` meets its contract.
+use Rattle.field.specs.Fields.{le_bytes}
+use borrow.Author.Rules.{rules}
+use Rattle.field.proofs.number.bytes4.Goals as goal
+
+pub returns : goal.returns
+unfolding le_bytes
+returns c = cc
