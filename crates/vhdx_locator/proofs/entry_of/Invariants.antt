@@ -1,14 +1,10 @@
 -- `vhdx_locator::entry_of` meets its contract: none of the first i entries has the key.
-use mathlib.Core.Path.{◌≡◌, sym, ◌∙◌}
-use mathlib.Core.Bool.{true, false}
+use mathlib.Core.Path.{◌≡◌}
 use mathlib.Core.Option.{none}
 use Prim.Native.Nat.{◌-◌, ◌≤◌}
-use native.Mathlib.Omega.{arith}
 use Rattle.decision.specs.Bounded.{first}
-use Rattle.decision.proofs.Laws.{first_more, first-end, first-hit}
-use Rattle.vhdx_locator.specs.Locator.{entry_count, has_key, entry_of}
-use Rattle.vhdx_locator.proofs.Laws.{Keeps, keeps, entry-keeps}
-use borrow.Author.Rules.{rules}
+use Rattle.vhdx_locator.specs.Locator.{entry_count, has_key}
+use Rattle.vhdx_locator.proofs.Laws.{Keeps}
 use Rattle.vhdx_locator.proofs.entry_of.Given as goal
 
 abbrev pub invariant-loop-i : goal.invariant-loop-i

@@ -1,6 +1,5 @@
 -- `vhdx_locator::is_vhdx` meets its contract: the identifier is compared by its two halves.
 use Rattle.vhdx_locator.proofs.Laws.{type-number}
-use borrow.Author.Rules.{rules}
 use Rattle.vhdx_locator.proofs.is_vhdx.Goals as goal
 
 pub returns : goal.returns

@@ -6,7 +6,6 @@ use borrow.Author.Tests.{eq-eqb, ne_eqb}
 use Rattle.extent.specs.declared.Extent.{Extent}
 use Rattle.vhdx_locator.specs.Locator.{key_length, has_key}
 use Rattle.vhdx_locator.proofs.Laws.{key-part}
-use borrow.Author.Rules.{rules}
 use Rattle.vhdx_locator.proofs.entry.has_key.Goals as goal
 
 pub returns-then-own-key_bytes : goal.returns-then-own-key_bytes
@@ -14,7 +13,7 @@ unfolding has_key
 returns-then-own-key_bytes c =
     let a = c.args in
     let n = ap (λ (x : Extent). x.length) c.key-own.ensures in
-    simp (ne_eqb (key_length a.item.now a.i) (length a.key-bytes.now) (omega arith))
+    simp (ne_eqb (key_length a.item.now a.i) (length a.key_bytes.now) (omega arith))
 
 pub bytes_are-requires : goal.bytes_are-requires
 bytes_are-requires c =
@@ -29,4 +28,4 @@ returns c =
     let a = c.args in
     let own = c.key-own.ensures in
     let n = ap (λ (x : Extent). x.length) own in
-    simp (c.bytes_are.ensures, own, eq-eqb (key_length a.item.now a.i) (length a.key-bytes.now) (omega arith))
+    simp (c.bytes_are.ensures, own, eq-eqb (key_length a.item.now a.i) (length a.key_bytes.now) (omega arith))

@@ -1,6 +1,5 @@
 -- `vhdx_locator::entry::keeps_rule` meets its contract: it has the definition's tests.
 use Rattle.vhdx_locator.specs.Locator.{entry_rule}
-use borrow.Author.Rules.{rules}
 use Rattle.vhdx_locator.proofs.entry.keeps_rule.Goals as goal
 
 pub returns : goal.returns

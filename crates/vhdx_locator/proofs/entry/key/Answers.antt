@@ -1,5 +1,4 @@
 -- `vhdx_locator::entry::key` meets its contract: it reads the fields that the definition names.
-use borrow.Author.Rules.{rules}
 use Rattle.vhdx_locator.proofs.entry.key.Goals as goal
 
 pub returns : goal.returns

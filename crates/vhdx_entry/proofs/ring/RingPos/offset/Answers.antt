@@ -1,0 +1,12 @@
+-- `vhdx_entry::ring::RingPos::offset` meets its contract.
+use mathlib.Core.Path.{ap}
+use Prim.Native.Nat.{◌+◌, ◌*◌, ◌%◌}
+use native.Mathlib.Omega.{arith}
+use Rattle.vhdx_entry.specs.declared.ring.RingPos.{RingPos}
+use borrow.Author.Rules.{rules}
+use Rattle.vhdx_entry.proofs.ring.RingPos.offset.Goals as goal
+
+pub returns : goal.returns
+returns c =
+    let n = c.args.n in
+    record { value = ap (λ (p : RingPos). p.at * 4096 + n % 4096) c.advance.ensures.value; result_bound = omega (arith, c.advance.ensures.at_lt_len) }

@@ -1,0 +1,6 @@
+-- `vhdx_facts::ranges::is_block_size` meets its contract: only a size has a logarithm here.
+use borrow.Author.Rules.{rules}
+use Rattle.vhdx_facts.proofs.ranges.is_block_size.Goals as goal
+
+pub returns : goal.returns
+returns c = c.block_shift.ensures.result_value
