@@ -7,4 +7,6 @@ use Rattle.vhdx_region.proofs.table_at.Goals as goal
 
 pub returns : goal.returns
 unfolding table_at
-returns c = let a = c.args in part-taken a.image.now a.at 65536 (omega arith)
+returns c = let a = c.args in
+    let parts = part-taken a.image.now a.at 65536 (omega arith) in
+    record { result_value = parts.0; result_value_2 = parts.1 }

@@ -24,7 +24,7 @@ returns-then-data-pos c =
     let a = c.args in
     let on = c.requires.0 in
     let long = length-ring a.log.now a.pos.len a.pos.at on.1 on.0 ∙ on.1 in
-    data-fit (ring a.log.now a.pos.at) c.requires.2 c.requires.1 c.data_descriptors.result c.data_descriptors.ensures c.«data».given.1 long
+    data-fit (ring a.log.now a.pos.at) c.requires.2 c.requires.1 c.data_descriptors.result c.data_descriptors.ensures c.in-Whole.is long
     c.sectors-front.ensures (omega arith)
 
 pub returns-else-data-pos : goal.returns-else-data-pos
@@ -32,5 +32,5 @@ returns-else-data-pos c =
     let a = c.args in
     let on = c.requires.0 in
     let long = length-ring a.log.now a.pos.len a.pos.at on.1 on.0 ∙ on.1 in
-    data-too-long (ring a.log.now a.pos.at) c.requires.2 c.requires.1 c.data_descriptors.result c.data_descriptors.ensures c.«data».given.1 long
+    data-too-long (ring a.log.now a.pos.at) c.requires.2 c.requires.1 c.data_descriptors.result c.data_descriptors.ensures c.in-Whole.is long
     c.sectors-front.ensures (omega arith)

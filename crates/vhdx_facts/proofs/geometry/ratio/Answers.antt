@@ -14,4 +14,4 @@ pub returns : goal.returns
 unfolding ratio
 returns c =
     let f = c.args.facts in
-    ap (λ (b : ℕ). 2 ^ 23 * f.logical_sector_size / b) (c.block_shift.ensures.result_value_2.0 (sizes f c.requires).block_kept)
+    ap (λ (b : ℕ). 2 ^ 23 * f.logical_sector_size / b) (c.block_shift.ensures.result_value_2 (sizes f c.requires).block_kept)

@@ -8,4 +8,6 @@ use Rattle.vhdx_region.proofs.table.entry.Goals as goal
 
 pub returns : goal.returns
 unfolding entry
-returns c = let a = c.args in part-taken a.t.now (16 + 32 * a.i) 32 (omega arith)
+returns c = let a = c.args in
+    let parts = part-taken a.t.now (16 + 32 * a.i) 32 (omega arith) in
+    record { result_value = parts.0; result_value_2 = parts.1 }

@@ -15,4 +15,4 @@ pub returns-then-by-len : goal.returns-then-by-len
 returns-then-by-len c = record { value = at_path _ _ _ (sym (mod-eq_of_lt (omega arith))); at_lt_len = (omega arith, refl) }
 
 pub returns-else-by-len : goal.returns-else-by-len
-returns-else-by-len c = (at_path _ _ _ (sym (mod-round _ _ _ (omega arith) (omega arith))), (omega arith, refl))
+returns-else-by-len c = record { value = at_path _ _ _ (sym (mod-round _ _ _ (omega arith) (omega arith))); at_lt_len = (omega arith, refl) }

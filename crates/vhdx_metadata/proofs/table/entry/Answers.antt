@@ -1,0 +1,13 @@
+-- `vhdx_metadata::table::entry` meets its contract.
+use Prim.Native.Nat.{◌+◌, ◌*◌}
+use native.Mathlib.Omega.{arith}
+use Rattle.extent.proofs.Parts.{part-taken}
+use Rattle.vhdx_metadata.specs.Table.{entry}
+use borrow.Author.Rules.{rules}
+use Rattle.vhdx_metadata.proofs.table.entry.Goals as goal
+
+pub returns : goal.returns
+unfolding entry
+returns c = let a = c.args in
+    let parts = part-taken a.region.now (32 + 32 * a.i) 32 (omega arith) in
+    record { result_value = parts.0; result_value_2 = parts.1 }

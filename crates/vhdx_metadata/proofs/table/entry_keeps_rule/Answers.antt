@@ -1,0 +1,15 @@
+-- `vhdx_metadata::table::entry_keeps_rule` meets its contract.
+use mathlib.Core.Path.{sym, ◌∙◌}
+use Rattle.vhdx_metadata.specs.Table.{entry_rule}
+use borrow.Author.Rules.{rules}
+use Rattle.vhdx_metadata.proofs.table.entry_keeps_rule.Goals as goal
+
+pub returns-then-keeps_rule : goal.returns-then-keeps_rule
+unfolding entry_rule
+returns-then-keeps_rule c =
+    simp (c.is_distinct.ensures, ← c.entry.ensures.result_value, sym c.keeps_rule.ensures ∙ c.if-keeps_rule.true)
+
+pub returns-else-keeps_rule : goal.returns-else-keeps_rule
+unfolding entry_rule
+returns-else-keeps_rule c =
+    simp (← c.entry.ensures.result_value, sym c.keeps_rule.ensures ∙ c.if-keeps_rule.false)
