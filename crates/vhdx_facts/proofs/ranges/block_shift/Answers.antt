@@ -63,20 +63,3 @@ returns-in-268435456 c =
     let parts = size c.args.n _ 28 c.in-268435456.is refl refl refl (omega arith) in
     record { result_value = parts.0; result_value_2 = parts.1.0; upper_bound = parts.1.1 }
 
-pub returns-in_default : goal.returns-in_default
-returns-in_default c =
-    let n = c.args.n in
-    let r = c.in_default.rest in
-    let parts = none n
-    (simp (
-      ne_eqb n _ r.0.0.0.0.0.0.0.0.1,
-      ne_eqb n _ r.0.0.0.0.0.0.0.1,
-      ne_eqb n _ r.0.0.0.0.0.0.1,
-      ne_eqb n _ r.0.0.0.0.0.1,
-      ne_eqb n _ r.0.0.0.0.1,
-      ne_eqb n _ r.0.0.0.1,
-      ne_eqb n _ r.0.0.1,
-      ne_eqb n _ r.0.1,
-      ne_eqb n _ r.1,
-    )) in
-    record { result_value = parts.0; result_value_2 = parts.1.0; upper_bound = parts.1.1 }
