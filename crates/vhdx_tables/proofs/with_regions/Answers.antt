@@ -1,5 +1,4 @@
 -- `vhdx_tables::with_regions` meets its contract: the locator lies inside the metadata region, and that inside the image.
--- Assumes nothing.
 use mathlib.Core.Path.{◌≡◌, sym, ap, subst, ◌∙◌}
 use mathlib.Core.Bool.{Bool, true, false}
 use mathlib.Core.List.{List}
@@ -15,8 +14,7 @@ use Rattle.vhdx_metadata.specs.Items.{items, outcome}
 use Rattle.vhdx_metadata.proofs.Laws.{locator-inside}
 use Rattle.vhdx_tables.specs.Tables.{locator_extent, facts_of, with_regions}
 use borrow.Author.Rules.{rules}
-use Rattle.vhdx_tables.proofs.with_regions.Statement.{statement}
-use Rattle.vhdx_tables.proofs.with_regions.Tie as tie
+use Rattle.vhdx_tables.proofs.with_regions.Goals as goal
 
 in_image : (parent : Bool) (region item : Extent) {n : ℕ} → item.offset + item.length ≤ region.length → region.offset + region.length ≤ n
     → (locator_extent parent region item).offset + (locator_extent parent region item).length ≤ n
@@ -33,46 +31,26 @@ facts-in-image g m {n = n} e p q =
 in-region : (region : List ℕ) (k : ℕ) {m : Items} → length region ≡ k → items region ≡ answered m → m.locator.offset + m.locator.length ≤ k
 in-region region k e h = omega (arith, locator-inside region h)
 
-facts-requires : tie.Need-facts-requires
-facts-requires c κs =
-    let r = c.before.before.before in
-    let s = r.before.before.before.before in
-    let h = in-region r.before.part.result.now s.args.regions.metadata.length r.before.part.ensures.1.0 (sym r.read.ensures ∙ ap outcome c.before.items.given.1) in
-    omega (arith, h, s.requires.0, s.well-formed)
+pub facts-requires : goal.facts-requires
+facts-requires c =
+    let h = in-region c.part.result.now c.args.regions.metadata.length c.part.ensures.result_value_2 (sym c.read.ensures ∙ ap outcome c.in-Found.is) in
+    omega (arith, h, c.requires.0, c.well_formed)
 
-judge-requires : tie.Need-judge-requires
-judge-requires c κs =
-    let r = c.before.before.before.before in
-    let s = r.before.before.before.before in
-    let h = in-region r.before.part.result.now s.args.regions.metadata.length r.before.part.ensures.1.0 (sym r.read.ensures ∙ ap outcome c.before.before.items.given.1) in
-    facts-in-image s.args.regions _ c.facts.ensures h s.requires.0
+pub judge-requires : goal.judge-requires
+judge-requires c =
+    let h = in-region c.part.result.now c.args.regions.metadata.length c.part.ensures.result_value_2 (sym c.read.ensures ∙ ap outcome c.in-Found.is) in
+    facts-in-image c.args.regions _ c.facts.ensures h c.requires.0
 
-returns : tie.Need-returns
+pub returns-in-Refused : goal.returns-in-Refused
 unfolding with_regions
-returns c =
-    let r = c.before.before.before.before in
-    simp (c.refused.ensures, sym (ap items r.before.part.ensures.0) ∙ sym r.read.ensures ∙ ap outcome c.before.before.number.given.1)
+returns-in-Refused c =
+    simp (c.refused.ensures, sym (ap items c.part.ensures.result_value) ∙ sym c.read.ensures ∙ ap outcome c.in-Refused.is)
 
-returns-2 : tie.Need-returns-2
+pub returns-in-Found : goal.returns-in-Found
 unfolding with_regions
-returns-2 c =
-    let r = c.before.before.before.before.before in
+returns-in-Found c =
     simp (
       c.judge.ensures,
-      c.before.facts.ensures,
-      sym (ap items r.before.part.ensures.0) ∙ sym r.read.ensures ∙ ap outcome c.before.before.before.items.given.1,
+      c.facts.ensures,
+      sym (ap items c.part.ensures.result_value) ∙ sym c.read.ensures ∙ ap outcome c.in-Found.is,
     )
-
-pub with-regions-spec : {M : Type 1} → statement M
-with-regions-spec =
-    tie.close
-    (tie.spec
-    (λ c κs. search rules)
-    (λ c κs. search rules)
-    (λ c. search rules)
-    (λ c κs. search rules)
-    (λ c. search rules)
-    facts-requires
-    judge-requires
-    returns
-    returns-2)

@@ -1,0 +1,6 @@
+-- `vhdx_tables::refused` meets its contract.
+use borrow.Author.Rules.{rules}
+use Rattle.vhdx_tables.proofs.refused.Goals as goal
+
+pub returns : goal.returns
+returns c = simp c.none.ensures
