@@ -1,0 +1,20 @@
+-- `vhdx_parent::value` meets its contract: the part that the extent names.
+use mathlib.Core.Path.{ap, ◌∙◌}
+use native.Mathlib.Omega.{arith}
+use Rattle.extent.specs.declared.Extent.{Extent}
+use Rattle.extent.specs.Extent.{part, onward}
+use Rattle.vhdx_parent.proofs.Laws.{key-inside}
+use borrow.Author.Rules.{rules}
+use Rattle.vhdx_parent.proofs.value.Goals as goal
+
+pub part-requires : goal.part-requires
+part-requires c =
+    let a = c.args in
+    let offset = ap (λ (x : Extent). x.offset) c.value_extent.ensures in
+    let length = ap (λ (x : Extent). x.length) c.value_extent.ensures in
+    omega (arith, offset, length, key-inside a.facts a.buffer.now a.length a.key.now)
+
+pub returns : goal.returns
+returns c =
+    let a = c.args in
+    record { result_value = c.part.ensures.result_value ∙ ap (part a.buffer.now) c.value_extent.ensures; result_value_2 = c.part.ensures.result_value_2 ∙ ap (λ (x : Extent). x.length) c.value_extent.ensures; ref_ptr_value = c.part.ensures.ref_ptr_value ∙ ap (λ (x : Extent). onward a.buffer.ref_ptr x.offset) c.value_extent.ensures }

@@ -1,0 +1,14 @@
+-- `vhdx_walk::Walk::nth` meets its contract.
+use mathlib.Core.Path.{ap, ◌∙◌}
+use mathlib.Core.List.{List}
+use lib.ListN.{get_elem?}
+use borrow.Author.Rules.{rules}
+use Rattle.vhdx_walk.specs.Entries.{Sector}
+use Rattle.vhdx_walk.specs.Walk.{sectors_left}
+use Rattle.vhdx_walk.proofs.Sectors.{nth_drop}
+use Rattle.vhdx_walk.proofs.Walk.nth.Goals as goal
+
+pub returns : goal.returns
+returns c =
+    let a = c.args in
+    record { result_value = c.current.ensures.result_value ∙ ap (λ (l : List Sector). get_elem? l 0) c.forward-there.ensures.result_value.0 ∙ nth_drop (sectors_left a.log.now a.self) a.k; held_next = c.current.ensures.held_next }
