@@ -1,0 +1,18 @@
+-- `vhdx_pieces_survey::survey_in` meets its contract.
+use mathlib.Core.Path.{◌≡◌, refl, sym, ap, ◌∙◌}
+use Prim.Native.Nat.{◌+◌, ◌-◌, ◌*◌, ◌≤◌}
+use native.Mathlib.Omega.{arith}
+use lib.ListN.{length}
+use Rattle.vhdx_pieces_entry.specs.Sector.{descriptor_in}
+use Rattle.vhdx_pieces_survey.specs.Touring.{added_by, survey_in}
+use Rattle.vhdx_pieces_survey.proofs.Turns.{survey-more}
+use mathlib.Core.Path.{ap₂}
+use borrow.Author.Rules.{rules}
+use Rattle.vhdx_pieces_survey.proofs.survey_in.Given as goal
+
+abbrev pub invariant-loop-i : goal.invariant-loop-i
+invariant-loop-i l =
+    (length l.s ≡ 4096) × (l.from + 32 * l.m ≤ 4096) × (l.i ≤ l.m) × (l.all ≡ survey_in l.log l.initial.all l.s l.from l.i)
+
+abbrev pub decreases-loop-i : goal.decreases-loop-i
+decreases-loop-i l = l.m - l.i

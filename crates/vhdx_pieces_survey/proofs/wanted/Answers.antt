@@ -1,0 +1,8 @@
+-- `vhdx_pieces_survey::wanted` meets its contract.
+use mathlib.Core.Path.{ap}
+use Rattle.vhdx_entry.specs.declared.ring.RingPos.{RingPos}
+use borrow.Author.Rules.{rules}
+use Rattle.vhdx_pieces_survey.proofs.wanted.Goals as goal
+
+pub returns : goal.returns
+returns c = (ap (λ (p : RingPos). p.at) c.advance.ensures.value, c.advance.ensures.at_lt_len.0)

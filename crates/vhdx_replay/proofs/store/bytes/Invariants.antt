@@ -1,0 +1,15 @@
+-- `vhdx_replay::store::bytes` meets its contract. The invariant: the first k bytes are stored, and the buffer is as long as it was.
+use mathlib.Core.Path.{◌≡◌, refl, ◌∙◌}
+use Prim.Native.Nat.{◌≤◌, ◌-◌}
+use native.Mathlib.Omega.{arith}
+use lib.ListN.{length, get_or, length-set}
+use lib.Seq.{paste, paste-zero}
+use borrow.Author.Rules.{rules}
+use Rattle.vhdx_replay.proofs.Storing.{paste_more, paste_all}
+use Rattle.vhdx_replay.proofs.store.bytes.Given as goal
+
+abbrev pub invariant-loop-k : goal.invariant-loop-k
+invariant-loop-k l = (l.k ≤ length l.initial.buffer) × (length l.buffer ≡ length l.offset) × (l.buffer ≡ paste l.offset l.given l.initial.buffer l.k)
+
+abbrev pub decreases-loop-k : goal.decreases-loop-k
+decreases-loop-k l = length l.initial.buffer - l.k

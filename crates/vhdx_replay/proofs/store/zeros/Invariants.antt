@@ -1,0 +1,15 @@
+-- `vhdx_replay::store::zeros` meets its contract. The invariant: the first k zeros are stored, and the buffer is as long as it was.
+use mathlib.Core.Path.{◌≡◌, sym, ◌∙◌}
+use Prim.Native.Nat.{ℕ, ◌≤◌, ◌<◌, ◌-◌}
+use native.Mathlib.Omega.{arith}
+use lib.ListN.{length, replicate, length-replicate, get_or-replicate, length-set}
+use lib.Seq.{paste, paste-zero}
+use borrow.Author.Rules.{rules}
+use Rattle.vhdx_replay.proofs.Storing.{paste_more, paste_all}
+use Rattle.vhdx_replay.proofs.store.zeros.Given as goal
+
+abbrev pub invariant-loop-k : goal.invariant-loop-k
+invariant-loop-k l = (l.k ≤ l.initial.buffer) × (length l.buffer ≡ length l.from) × (l.buffer ≡ paste l.from l.to (replicate l.initial.buffer 0) l.k)
+
+abbrev pub decreases-loop-k : goal.decreases-loop-k
+decreases-loop-k l = l.initial.buffer - l.k
