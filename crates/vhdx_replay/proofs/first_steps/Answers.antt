@@ -11,20 +11,20 @@ grow-requires c =
 
 pub part-requires : goal.part-requires
 part-requires c =
-    grown-inside c.args.buffer.now c.args.length c.args.log c.args.work c.requires c.grow.new.0 c.grow.ensures
+    grown-inside c.args.buffer.now c.args.length c.args.log c.args.work c.requires c.grow.new.buffer c.grow.ensures
 
 pub forward-start-requires : goal.forward-start-requires
 forward-start-requires c =
-    start-ready c.args.buffer.now c.args.length c.args.log c.args.work c.requires c.grow.new.0 c.grow.ensures
+    start-ready c.args.buffer.now c.args.length c.args.log c.args.work c.requires c.grow.new.buffer c.grow.ensures
     c.part.result.now c.part.ensures.result_value c.from.result c.from.ensures
 
 pub write_sectors-requires : goal.write_sectors-requires
 write_sectors-requires c =
-    writable c.args.buffer.now c.args.length c.args.log c.args.work c.requires c.grow.new.0 c.grow.ensures
-    c.part.result.now c.part.ensures.result_value c.from.result c.from.ensures c.forward-start.result c.forward-start.ensures.is-successor c.forward-start.ensures.gap
+    writable c.args.buffer.now c.args.length c.args.log c.args.work c.requires c.grow.new.buffer c.grow.ensures
+    c.part.result.now c.part.ensures.result_value c.from.result c.from.ensures c.forward-start.result c.forward-start.ensures.ready c.forward-start.ensures.result_value
 
 pub returns : goal.returns
 returns c =
     c.write_sectors.ensures
-    ∙ replayed c.args.buffer.now c.args.length c.args.log c.args.work c.requires c.grow.new.0 c.grow.ensures
-    c.part.result.now c.part.ensures.result_value c.from.result c.from.ensures c.forward-start.result c.forward-start.ensures.is-successor c.forward-start.ensures.gap c.args.count
+    ∙ replayed c.args.buffer.now c.args.length c.args.log c.args.work c.requires c.grow.new.buffer c.grow.ensures
+    c.part.result.now c.part.ensures.result_value c.from.result c.from.ensures c.forward-start.result c.forward-start.ensures.ready c.forward-start.ensures.result_value c.args.count

@@ -34,7 +34,7 @@ pub returns-then-is_inside : goal.returns-then-is_inside
 returns-then-is_inside c =
     let parts = written c.args.buffer.now c.args.length c.args.log c.args.work c.requires c.args.i c.part.result.now c.part.ensures.result_value
     c.from.result c.from.ensures c.nth.result c.nth.ensures.result_value _ c.in-Sector.is (sym c.if-is_inside.true ∙ c.is_inside.ensures)
-    c.write.new.0 c.write.ensures in
+    c.write.new.buffer c.write.ensures in
     record { value = parts.0; buffer_after = parts.1 }
 
 pub returns-else-is_inside : goal.returns-else-is_inside

@@ -5,7 +5,7 @@ use Rattle.vhdx_replay.proofs.Loop.{Going, begin, inside-now, writable_now, more
 use Rattle.vhdx_replay.proofs.write_sectors.Given as goal
 
 abbrev pub invariant-loop-k : goal.invariant-loop-k
-invariant-loop-k l = Going l.log l.count l.initial.walk l.initial.buffer l.buffer l.walk l.k
+invariant-loop-k l = Going l.initial.buffer l.log l.initial.walk l.count l.buffer l.walk l.k
 
 abbrev pub decreases-loop-k : goal.decreases-loop-k
-decreases-loop-k l = l.initial.buffer - l.k
+decreases-loop-k l = l.count - l.k

@@ -6,4 +6,4 @@ use Rattle.vhdx_replay.proofs.sector.data.Goals as goal
 pub returns : goal.returns
 returns c =
     stored c.args.log.now c.blank-out.result c.args.descriptor c.args.sector c.blank-out.ensures c.requires.0 c.requires.1
-    c.bytes.new.0 c.bytes-2.new.0 c.bytes-3.new.0 c.bytes.ensures c.bytes-2.ensures c.bytes-3.ensures
+    c.bytes.new.buffer c.bytes-2.new.buffer c.bytes-3.new.buffer c.bytes.ensures c.bytes-2.ensures c.bytes-3.ensures

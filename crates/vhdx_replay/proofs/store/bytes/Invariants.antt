@@ -9,7 +9,7 @@ use Rattle.vhdx_replay.proofs.Storing.{paste_more, paste_all}
 use Rattle.vhdx_replay.proofs.store.bytes.Given as goal
 
 abbrev pub invariant-loop-k : goal.invariant-loop-k
-invariant-loop-k l = (l.k ≤ length l.initial.buffer) × (length l.buffer ≡ length l.offset) × (l.buffer ≡ paste l.offset l.given l.initial.buffer l.k)
+invariant-loop-k l = (l.k ≤ length l.given) × (length l.buffer ≡ length l.initial.buffer) × (l.buffer ≡ paste l.initial.buffer l.offset l.given l.k)
 
 abbrev pub decreases-loop-k : goal.decreases-loop-k
-decreases-loop-k l = length l.initial.buffer - l.k
+decreases-loop-k l = length l.given - l.k

@@ -9,7 +9,7 @@ use Rattle.vhdx_replay.proofs.Storing.{paste_more, paste_all}
 use Rattle.vhdx_replay.proofs.store.zeros.Given as goal
 
 abbrev pub invariant-loop-k : goal.invariant-loop-k
-invariant-loop-k l = (l.k ≤ l.initial.buffer) × (length l.buffer ≡ length l.from) × (l.buffer ≡ paste l.from l.to (replicate l.initial.buffer 0) l.k)
+invariant-loop-k l = (l.k ≤ l.n) × (length l.buffer ≡ length l.initial.buffer) × (l.buffer ≡ paste l.initial.buffer l.from (replicate l.n 0) l.k)
 
 abbrev pub decreases-loop-k : goal.decreases-loop-k
-decreases-loop-k l = l.initial.buffer - l.k
+decreases-loop-k l = l.n - l.k
