@@ -1,0 +1,20 @@
+-- `vhdx_rewrite::closed` meets its contract: the checksum over the rewritten header.
+use mathlib.Core.Path.{ap, ◌∙◌}
+use native.Mathlib.Omega.{arith}
+use mathlib.Core.List.{List}
+use Prim.Native.Nat.{ℕ}
+use lib.ListN.{length}
+use Rattle.vhdx_steps.specs.Buffer.{put}
+use Rattle.field.specs.Fields.{le_bytes}
+use Rattle.field.proofs.Bytes.{le-bytes-long}
+use Rattle.vhdx_rewrite.specs.Rewrite.{new_checksum, closed_header}
+use Rattle.vhdx_steps.proofs.Bytes.{put-length}
+use borrow.Author.Rules.{rules}
+use Rattle.vhdx_rewrite.proofs.closed.Goals as goal
+
+pub returns : goal.returns
+unfolding closed_header
+returns c =
+    let u = c.rewrite-out.result in
+    let is = c.bytes.ensures ∙ ap (put u 4) (c.bytes4-sum.ensures ∙ ap (le_bytes 4) c.checksum_zeroed.ensures) ∙ ap (λ (x : List ℕ). put x 4 (le_bytes 4 (new_checksum x))) c.rewrite-out.ensures.value in
+    record { value = is; result_value = ap length c.bytes.ensures ∙ put-length u 4 c.bytes4-sum.result (omega (arith, c.rewrite-out.ensures.result_value, ap length c.bytes4-sum.ensures, le-bytes-long 4 c.checksum_zeroed.result)) ∙ c.rewrite-out.ensures.result_value }
