@@ -1,7 +1,7 @@
 /*
  * Attaches a VHDX file in memory and says where its first sector is. The file itself is not changed.
  *
- *   cc -std=c11 -Iinclude examples/attach.c target/staticlib/libcapi.a -o attach
+ *   cc -std=c11 -Iinclude examples/attach.c crates/capi/out/libcapi.a -o attach
  */
 #include "shrunvaki.h"
 #include <inttypes.h>

@@ -9,7 +9,8 @@
  *
  * A file: read it into a buffer with space for what its log grows it by, call shrunvaki_vhdx_attach, and go on with the length in
  * its answer. The log stays in the file and is not marked as applied: attaching again does the same work and gives the same, until
- * shrunvaki_vhdx_close closes the log. examples/attach.c attaches. Link target/staticlib/libcapi.a, which `rt staticlib capi` writes.
+ * shrunvaki_vhdx_close closes the log. examples/attach.c attaches. Link crates/capi/out/libcapi.a, which `rt lib`, run in
+ * crates/capi, writes.
  *
  * A file that no buffer holds: shrunvaki_vhdx_pieces_start and _next do the log's work 64 KiB at a time.
  */

@@ -1,13 +1,14 @@
-//! Has `rt staticlib` prove a crate of the library and write its archive, where that was not done for the very files that are
-//! there now: in the repository, or in cargo's own folder where the repository cannot be written.
+//! Has `rt lib` prove a crate of the library and write its archive, where that was not done for the very files that are there now:
+//! in the repository, or in cargo's own folder where the repository cannot be written.
 use std::collections::{BTreeMap, BTreeSet};
 use std::env;
 use std::ffi::OsStr;
 use std::fs::{self, File};
 use std::hash::{DefaultHasher, Hash, Hasher};
-use std::io;
+use std::io::{self, BufRead, BufReader};
 use std::path::{Path, PathBuf};
-use std::process::Command;
+use std::process::{Command, Stdio};
+use std::thread;
 
 /// Links `libNAME.a`. `root`: from the package to the repository's top.
 pub fn link(name: &str, root: &str) {
@@ -15,7 +16,7 @@ pub fn link(name: &str, root: &str) {
     let root = root.canonicalize().expect("the repository's top");
     let folder = PathBuf::from(env::var_os("OUT_DIR").expect("cargo's folder"));
     let archive = build(name, &root, &folder.join("library"));
-    // a copy of cargo's own: `rt ci` removes the folder in which rt writes it
+    // a copy of cargo's own, which no other build writes
     fs::write(folder.join(format!("lib{name}.a")), archive).expect("a copy of the archive");
     println!("cargo:rustc-link-search=native={}", folder.display());
     println!("cargo:rustc-link-lib=static={name}");
@@ -38,7 +39,7 @@ fn build(name: &str, root: &Path, own: &Path) -> Vec<u8> {
             println!(
                 "cargo:warning=the library is proved in cargo's folder, not in {root:?}: {error}"
             );
-            copy(&files, root, own);
+            copy(&files, &crates, root, own);
             (own, lock(own).expect("a file in cargo's folder"))
         }
     };
@@ -55,12 +56,12 @@ fn lock(root: &Path) -> io::Result<File> {
     Ok(lock)
 }
 
-/// Where the archive is, and the file that says what it was made from.
+/// Where the archive is kept, since `rt ci` removes the one that rt wrote, and the file that says what it was made from.
 fn places(name: &str, root: &Path) -> [PathBuf; 2] {
     ["a", "made-from"].map(|end| root.join(format!("target/staticlib/lib{name}.{end}")))
 }
 
-/// The archive's own bytes count too: `rt staticlib`, run by hand, may have written it from other files.
+/// The archive's own bytes count too: a build that was killed may have written one without the other.
 fn stamp(fingerprint: &str, archive: &[u8]) -> String {
     let mut hasher = DefaultHasher::new();
     archive.hash(&mut hasher);
@@ -76,30 +77,60 @@ fn made(name: &str, root: &Path, fingerprint: &str) -> Option<Vec<u8>> {
 }
 
 fn make(name: &str, root: &Path, crates: &BTreeSet<String>, fingerprint: &str) -> Vec<u8> {
-    // proves what the crate needs, several crates at a time; `rt staticlib` alone proves one after the other
-    let below: Vec<&str> = crates
-        .iter()
-        .map(String::as_str)
-        .filter(|c| *c != name)
-        .collect();
-    rt(root, &[&["check"], &below[..]].concat());
-    rt(root, &["staticlib", name]);
-    let [archive, made_from] = places(name, root);
-    let archive = fs::read(archive).expect("the archive");
+    prove_below(root, crates);
+    let folder = root.join("crates").join(name);
+    let done = Command::new("rt").arg("lib").current_dir(&folder).status();
+    match done {
+        Ok(status) if status.success() => {}
+        Ok(status) => panic!("rt lib in crates/{name} ended with {status}"),
+        Err(error) => {
+            panic!("rt lib: {error}. The Rattle toolchain's command rt has to be on the PATH")
+        }
+    }
+    let archive = fs::read(folder.join(format!("out/lib{name}.a"))).expect("the archive");
+    let [kept, made_from] = places(name, root);
+    fs::write(kept, &archive).expect("a file in target/staticlib");
     fs::write(made_from, stamp(fingerprint, &archive)).expect("a file in target/staticlib");
     archive
 }
 
-/// Runs rt; its lines reach whoever runs cargo with -vv.
-fn rt(root: &Path, words: &[&str]) {
-    let done = Command::new("rt").args(words).current_dir(root).status();
-    match done {
-        Ok(status) if status.success() => {}
-        Ok(status) => panic!("rt {} ended with {status}", words.join(" ")),
-        Err(error) => panic!(
-            "rt {}: {error}. The Rattle toolchain's command rt has to be on the PATH",
-            words.join(" ")
-        ),
+/// Proves what there is several crates at a time, where `rt lib` goes through those that it needs one after the other. A line a
+/// crate reaches whoever runs cargo with -vv. Nothing rests on it: what is not proved then, `rt lib` proves, or says why not.
+fn prove_below(root: &Path, crates: &BTreeSet<String>) {
+    let mut check = Command::new("rt");
+    check.args(["all", "check"]).args(jobs()).current_dir(root);
+    let Ok(mut running) = check.stdout(Stdio::piped()).spawn() else {
+        return;
+    };
+    let mut crate_named = String::new();
+    let mut proved = BTreeSet::new();
+    for line in BufReader::new(running.stdout.take().expect("a pipe")).lines() {
+        let Ok(line) = line else { break };
+        if let Some(name) = line.strip_prefix("== ") {
+            crate_named = name.to_string();
+        } else if line.starts_with("logic=proved") && crates.contains(&crate_named) {
+            proved.insert(crate_named.clone());
+            let (count, all) = (proved.len(), crates.len());
+            println!("rt: {crate_named} proved ({count} of {all})");
+        }
+    }
+    // its status may be that of a crate that the archive does not need
+    let _ = running.wait();
+}
+
+/// How many crates are checked at a time where it is more than the two that rt takes by itself: one a processor, with 4 GiB each.
+fn jobs() -> Vec<String> {
+    let cores = thread::available_parallelism().map_or(1, usize::from);
+    let memory = fs::read_to_string("/proc/meminfo").unwrap_or_default();
+    let free = memory
+        .lines()
+        .find_map(|line| line.strip_prefix("MemAvailable:"))
+        .and_then(|rest| rest.split_whitespace().next()?.parse::<usize>().ok())
+        .unwrap_or(0);
+    let jobs = cores.min(free >> 22);
+    match jobs > 2 {
+        true => vec!["--jobs".to_string(), jobs.to_string()],
+        false => Vec::new(),
     }
 }
 
@@ -108,9 +139,10 @@ fn reached(name: &str, root: &Path) -> BTreeSet<String> {
     let list = fs::read_to_string(root.join("crates.txt")).expect("crates.txt");
     let uses: BTreeMap<&str, Vec<&str>> = list
         .lines()
-        .filter(|line| !line.starts_with('#'))
-        .filter_map(|line| line.split_once(':'))
-        .map(|(name, uses)| (name.trim(), uses.split_whitespace().collect()))
+        .filter_map(|line| {
+            let uses = line.split_once(':').map_or("", |(_, uses)| uses);
+            Some((named(line)?, uses.split_whitespace().collect()))
+        })
         .collect();
     let mut found = BTreeSet::new();
     let mut next = vec![name];
@@ -122,6 +154,12 @@ fn reached(name: &str, root: &Path) -> BTreeSet<String> {
         }
     }
     found
+}
+
+/// The crate of which a line of crates.txt speaks; behind its name there may be words such as `staticlib`.
+fn named(line: &str) -> Option<&str> {
+    let head = line.split(['#', ':']).next()?;
+    head.split_whitespace().next()
 }
 
 /// All that decides what the archive holds, but the toolchain: the folders of code, definitions and proofs, and crates.txt.
@@ -167,8 +205,9 @@ fn fingerprint(files: &[PathBuf], root: &Path) -> String {
     format!("{:016x}", hasher.finish())
 }
 
-/// Copies files to the same places below another root, where no others of the library are then.
-fn copy(files: &[PathBuf], root: &Path, own: &Path) {
+/// Copies files to the same places below another root, where no others of the library are then. In its crates.txt are only the
+/// crates that are there.
+fn copy(files: &[PathBuf], crates: &BTreeSet<String>, root: &Path, own: &Path) {
     let _ = fs::remove_dir_all(own.join("crates"));
     for path in files {
         let to = own.join(below(path, root));
@@ -177,6 +216,12 @@ fn copy(files: &[PathBuf], root: &Path, own: &Path) {
         let bytes = fs::read(path).expect("a source");
         fs::write(to, bytes).expect("a file in cargo's folder");
     }
+    let list = fs::read_to_string(root.join("crates.txt")).expect("crates.txt");
+    let lines: Vec<&str> = list
+        .lines()
+        .filter(|line| named(line).is_some_and(|name| crates.contains(name)))
+        .collect();
+    fs::write(own.join("crates.txt"), lines.join("\n") + "\n").expect("a file in cargo's folder");
 }
 
 fn below<'a>(path: &'a Path, root: &Path) -> &'a Path {

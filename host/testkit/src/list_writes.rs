@@ -16,9 +16,11 @@ pub fn list_writes() -> &'static Path {
         fs::create_dir_all(&folder).expect("a folder in target");
         let lock = File::create(folder.join(".lock")).expect("a file in target");
         lock.lock().expect("a lock");
-        let mut check = Command::new("rt");
-        check.args(["check", "list_writes"]).current_dir(&root);
-        end(&mut check).with(0);
-        root.join("target/bin/list_writes")
+        // rt has no command that makes a program and does not run it: without a name this one ends at once
+        let crate_folder = root.join("crates/list_writes");
+        let mut make = Command::new("rt");
+        make.arg("run").current_dir(&crate_folder);
+        end(&mut make).with(0);
+        crate_folder.join("out/list_writes")
     })
 }

@@ -99,7 +99,7 @@ impl Function {
     /// Those that capi defines for other languages, in its order.
     fn all() -> Vec<Function> {
         let text = without_comments(DEFINED);
-        let mut parts = text.split("#[no_mangle]\npub extern \"C\" fn ");
+        let mut parts = text.split("#[unsafe(no_mangle)]\npub extern \"C\" fn ");
         let before = parts.next().expect("a first part");
         assert!(!before.contains("extern \"C\""), "{before}");
         parts.map(Function::from_source).collect()
