@@ -6,7 +6,6 @@ use mathlib.Core.List.{List, [], ◌∷◌, ◌++◌}
 use mathlib.Core.Logic.{◌⊎◌, inl, inr}
 use Prim.Native.Nat.{ℕ}
 use lib.Dec.{eqb, ltb}
-use lib.ListN.{length}
 use Rattle.decision.specs.Refusal.{check}
 use Rattle.field.specs.Fields.{number}
 use Rattle.vhdx_header.specs.declared.Header.{Header}
