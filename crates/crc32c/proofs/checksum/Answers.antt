@@ -2,7 +2,6 @@
 use mathlib.Core.Path.{ap, ◌∙◌}
 use Prim.Native.Nat.{ℕ}
 use lib.Bits.{bit_xor}
-use borrow.Author.Rules.{rules}
 use Rattle.crc32c.specs.Crc.{ones, crc}
 use Rattle.crc32c.proofs.checksum.Goals as goal
 

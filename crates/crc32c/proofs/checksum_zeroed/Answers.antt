@@ -1,5 +1,4 @@
 -- `crc32c::checksum_zeroed` meets its contract.
-use borrow.Author.Rules.{rules}
 use Rattle.crc32c.specs.Crc.{crc}
 use Rattle.crc32c.proofs.checksum_zeroed.Goals as goal
 

@@ -1,10 +1,7 @@
 -- `crc32c::run` meets its contract. The loop's invariant: the state, updated by the bytes that are left, is what the contract asks.
-use Prim.Native.Nat.{◌≤◌, ◌-◌}
-use mathlib.Core.Path.{◌≡◌, ◌∙◌}
+use mathlib.Core.Path.{◌∙◌}
 use native.Mathlib.Omega.{arith}
 use borrow.Author.Rules.{rules}
-use lib.ListN.{length, drop}
-use Rattle.crc32c.specs.Crc.{updates}
 use Rattle.crc32c.proofs.Laws.{turn, ended}
 use Rattle.crc32c.proofs.run.Goals as goal
 

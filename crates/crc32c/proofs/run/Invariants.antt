@@ -1,11 +1,8 @@
 -- `crc32c::run` meets its contract. The loop's invariant: the state, updated by the bytes that are left, is what the contract asks.
 use Prim.Native.Nat.{◌≤◌, ◌-◌}
-use mathlib.Core.Path.{◌≡◌, ◌∙◌}
-use native.Mathlib.Omega.{arith}
-use borrow.Author.Rules.{rules}
+use mathlib.Core.Path.{◌≡◌}
 use lib.ListN.{length, drop}
 use Rattle.crc32c.specs.Crc.{updates}
-use Rattle.crc32c.proofs.Laws.{turn, ended}
 use Rattle.crc32c.proofs.run.Given as goal
 
 abbrev pub invariant-loop-i : goal.invariant-loop-i

@@ -3,7 +3,6 @@ use mathlib.Core.Path.{sym, ap}
 use Prim.Native.Nat.{ℕ, ◌+◌}
 use native.Mathlib.Omega.{arith}
 use lib.Seq.{length-take-le}
-use borrow.Author.Rules.{rules}
 use Rattle.crc32c.proofs.Laws.{updates-zeroed}
 use Rattle.crc32c.proofs.start_zeroed.Goals as goal
 

@@ -4,7 +4,6 @@ use Prim.Native.Nat.{ℕ, ◌/◌, ◌%◌}
 use native.Mathlib.Nat.{mod-lt}
 use lib.Bits.{bit_xor}
 use lib.Dec.{lit<}
-use borrow.Author.Rules.{rules}
 use Rattle.crc32c.proofs.Laws.{byte-is}
 use Rattle.crc32c.proofs.step.Goals as goal
 

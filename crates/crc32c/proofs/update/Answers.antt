@@ -1,5 +1,4 @@
 -- `crc32c::update` meets its contract, by that of `run`.
-use borrow.Author.Rules.{rules}
 use Rattle.crc32c.proofs.update.Goals as goal
 
 pub returns : goal.returns

@@ -1,5 +1,4 @@
 -- `extent::are_apart` meets its contract.
-use borrow.Author.Rules.{rules}
 use Rattle.extent.proofs.are_apart.Goals as goal
 
 pub returns : goal.returns

@@ -2,7 +2,6 @@
 use mathlib.Core.Path.{◌≡◌, ap}
 use Prim.Native.Nat.{ℕ, ◌+◌}
 use native.Mathlib.Omega.{arith}
-use borrow.Author.Rules.{rules}
 use Rattle.extent.specs.Extent.{part}
 use Rattle.extent.proofs.Parts.{part-taken}
 use Rattle.extent.proofs.part.Goals as goal

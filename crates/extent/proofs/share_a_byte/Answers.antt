@@ -1,7 +1,6 @@
 -- `extent::share_a_byte` meets its contract.
 use native.Mathlib.Omega.{arith}
 use Rattle.extent.proofs.Laws.{starts-before, starts-behind}
-use borrow.Author.Rules.{rules}
 use Rattle.extent.proofs.share_a_byte.Goals as goal
 
 pub returns-then-a-b : goal.returns-then-a-b

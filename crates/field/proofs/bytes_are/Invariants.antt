@@ -1,12 +1,8 @@
 -- `field::bytes_are` meets its contract. The loop's invariant: the answer is that of what is left of both.
 use Prim.Native.Nat.{◌≤◌, ◌+◌, ◌-◌}
-use mathlib.Core.Path.{◌≡◌, sym, ◌∙◌}
-use native.Mathlib.Nat.{add-zero, add_assoc}
-use native.Mathlib.Omega.{arith}
-use borrow.Author.Rules.{rules}
+use mathlib.Core.Path.{◌≡◌}
 use lib.ListN.{length, drop}
 use Rattle.field.specs.Fields.{starts}
-use Rattle.field.proofs.Laws.{starts-end, starts-yes, starts-no}
 use Rattle.field.proofs.bytes_are.Given as goal
 
 abbrev pub invariant-loop-i : goal.invariant-loop-i

@@ -1,5 +1,4 @@
 -- `field::guid_at` meets its contract.
-use borrow.Author.Rules.{rules}
 use Rattle.field.proofs.guid_at.Goals as goal
 
 pub returns : goal.returns

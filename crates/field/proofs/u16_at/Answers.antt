@@ -1,6 +1,5 @@
 -- `field::u16_at` meets its contract: two halves of 1 byte(s), by the law over the width.
 use native.Mathlib.Omega.{arith}
-use borrow.Author.Rules.{rules}
 use Rattle.field.proofs.Laws.{joined}
 use Rattle.field.proofs.u16_at.Goals as goal
 

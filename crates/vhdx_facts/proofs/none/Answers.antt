@@ -1,5 +1,4 @@
 -- `vhdx_facts::none` meets its contract: each part is that of what is not there.
-use borrow.Author.Rules.{rules}
 use Rattle.vhdx_facts.proofs.none.Goals as goal
 
 pub returns : goal.returns

@@ -2,7 +2,6 @@
 use native.Mathlib.Omega.{arith}
 use borrow.Author.Tests.{lt-leb, le-leb}
 use Rattle.vhdx_fit.specs.Fit.{fits}
-use borrow.Author.Rules.{rules}
 use Rattle.vhdx_fit.proofs.fits.Goals as goal
 
 pub returns-then-capacity-length : goal.returns-then-capacity-length

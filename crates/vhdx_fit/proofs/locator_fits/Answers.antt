@@ -2,7 +2,6 @@
 use native.Mathlib.Omega.{arith}
 use borrow.Author.Tests.{lt-leb, le-leb}
 use Rattle.vhdx_fit.specs.Fit.{locator_fits}
-use borrow.Author.Rules.{rules}
 use Rattle.vhdx_fit.proofs.locator_fits.Goals as goal
 
 pub returns-then-locator-metadata : goal.returns-then-locator-metadata

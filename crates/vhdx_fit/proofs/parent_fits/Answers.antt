@@ -1,5 +1,4 @@
 -- `vhdx_fit::parent_fits` meets its contract: the locator counts only with a parent.
-use borrow.Author.Rules.{rules}
 use Rattle.vhdx_fit.proofs.parent_fits.Goals as goal
 
 pub returns-then-facts : goal.returns-then-facts

@@ -1,6 +1,5 @@
 -- `vhdx_fit::regions_fit` meets its contract: it has the definition's tests.
 use Rattle.vhdx_fit.specs.Fit.{regions_fit}
-use borrow.Author.Rules.{rules}
 use Rattle.vhdx_fit.proofs.regions_fit.Goals as goal
 
 pub returns : goal.returns

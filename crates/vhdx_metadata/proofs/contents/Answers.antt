@@ -3,7 +3,6 @@ use native.Mathlib.Omega.{arith}
 use Rattle.vhdx_metadata.specs.Known.{known_lengths}
 use Rattle.vhdx_metadata.specs.Items.{contents}
 use Rattle.vhdx_metadata.proofs.Laws.{table_kept, readable}
-use borrow.Author.Rules.{rules}
 use Rattle.vhdx_metadata.proofs.contents.Goals as goal
 
 pub has_parent-has_parent-requires : goal.has_parent-has_parent-requires

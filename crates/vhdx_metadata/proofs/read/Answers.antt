@@ -3,7 +3,6 @@ use mathlib.Core.Path.{sym, ◌∙◌}
 use borrow.Author.Tests.{not-true, not-false}
 use Rattle.vhdx_metadata.specs.Items.{items}
 use Rattle.vhdx_metadata.proofs.Laws.{holds-table}
-use borrow.Author.Rules.{rules}
 use mathlib.Core.Path.{ap}
 use mathlib.Core.Bool.{not}
 use Rattle.vhdx_metadata.proofs.read.Goals as goal

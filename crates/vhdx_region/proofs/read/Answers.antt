@@ -1,7 +1,6 @@
 -- `vhdx_region::read` meets its contract: the first valid copy is read.
 use mathlib.Core.Path.{sym, ◌∙◌}
 use Rattle.vhdx_region.specs.Region.{regions}
-use borrow.Author.Rules.{rules}
 use Rattle.vhdx_region.proofs.read.Goals as goal
 
 pub read_table-requires : goal.read_table-requires

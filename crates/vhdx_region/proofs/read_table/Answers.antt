@@ -4,7 +4,6 @@ use borrow.Author.Tests.{not-true, not-false}
 use Rattle.decision.specs.Bounded.{found}
 use Rattle.vhdx_region.proofs.Entries.{found_below}
 use Rattle.vhdx_region.specs.Region.{read_table, bat_row, metadata_row}
-use borrow.Author.Rules.{rules}
 use mathlib.Core.Bool.{not}
 use Rattle.vhdx_region.proofs.read_table.Goals as goal
 

@@ -2,7 +2,6 @@
 use native.Mathlib.Omega.{arith}
 use Rattle.extent.proofs.Parts.{part-taken}
 use Rattle.vhdx_region.specs.Region.{table_at}
-use borrow.Author.Rules.{rules}
 use Rattle.vhdx_region.proofs.table_at.Goals as goal
 
 pub returns : goal.returns

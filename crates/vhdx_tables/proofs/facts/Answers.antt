@@ -1,6 +1,5 @@
 -- `vhdx_tables::facts` meets its contract.
 use Rattle.vhdx_tables.specs.Tables.{facts_of}
-use borrow.Author.Rules.{rules}
 use Rattle.vhdx_tables.proofs.facts.Goals as goal
 
 pub returns : goal.returns

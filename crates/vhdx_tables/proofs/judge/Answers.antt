@@ -4,7 +4,6 @@ use mathlib.Core.Bool.{and-eq-true_iff}
 use borrow.Author.Tests.{not-true, not-false}
 use Rattle.vhdx_facts.specs.Ranges.{sizes_rule}
 use Rattle.vhdx_tables.specs.Tables.{parent_rule, judged}
-use borrow.Author.Rules.{rules}
 use mathlib.Core.Path.{ap}
 use mathlib.Core.Bool.{not}
 use Rattle.vhdx_tables.proofs.judge.Goals as goal

@@ -1,5 +1,4 @@
 -- `vhdx_tables::locator_extent` meets its contract.
-use borrow.Author.Rules.{rules}
 use Rattle.vhdx_tables.proofs.locator_extent.Goals as goal
 
 pub returns-then-has_parent : goal.returns-then-has_parent

@@ -3,7 +3,6 @@ use mathlib.Core.Path.{sym, ap, ◌∙◌}
 use Rattle.vhdx_region.specs.Region.{outcome}
 use Rattle.vhdx_region.proofs.Laws.{placed}
 use Rattle.vhdx_tables.specs.Tables.{tables}
-use borrow.Author.Rules.{rules}
 use Rattle.vhdx_tables.proofs.read.Goals as goal
 
 pub with_regions-requires : goal.with_regions-requires

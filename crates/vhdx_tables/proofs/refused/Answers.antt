@@ -1,5 +1,4 @@
 -- `vhdx_tables::refused` meets its contract.
-use borrow.Author.Rules.{rules}
 use Rattle.vhdx_tables.proofs.refused.Goals as goal
 
 pub returns : goal.returns

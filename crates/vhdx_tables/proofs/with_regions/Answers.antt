@@ -13,7 +13,6 @@ use Rattle.vhdx_metadata.specs.declared.Items.{Items}
 use Rattle.vhdx_metadata.specs.Items.{items, outcome}
 use Rattle.vhdx_metadata.proofs.Laws.{locator-inside}
 use Rattle.vhdx_tables.specs.Tables.{locator_extent, facts_of, with_regions}
-use borrow.Author.Rules.{rules}
 use Rattle.vhdx_tables.proofs.with_regions.Goals as goal
 
 in_image : (parent : Bool) (region item : Extent) {n : ℕ} → item.offset + item.length ≤ region.length → region.offset + region.length ≤ n

@@ -1,6 +1,5 @@
 -- `field::number::bytes4` meets its contract.
 use Rattle.field.specs.Fields.{le_bytes}
-use borrow.Author.Rules.{rules}
 use Rattle.field.proofs.number.bytes4.Goals as goal
 
 pub returns : goal.returns

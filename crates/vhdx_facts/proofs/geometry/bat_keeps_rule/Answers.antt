@@ -2,7 +2,6 @@
 use native.Mathlib.Omega.{arith}
 use Rattle.vhdx_facts.specs.Geometry.{bat_rule}
 use Rattle.vhdx_facts.proofs.Laws.{counts}
-use borrow.Author.Rules.{rules}
 use Rattle.vhdx_facts.proofs.geometry.bat_keeps_rule.Goals as goal
 
 pub overflow_mul-result : goal.overflow_mul-result

@@ -5,7 +5,6 @@ use native.Mathlib.Nat.{div-le_self}
 use native.Mathlib.Omega.{arith}
 use Rattle.vhdx_facts.proofs.Laws.{sizes}
 use Rattle.vhdx_facts.proofs.Chunks.{chunks-of-sectors}
-use borrow.Author.Rules.{rules}
 use Rattle.vhdx_facts.proofs.geometry.chunks.Goals as goal
 
 pub overflow_add-result : goal.overflow_add-result

@@ -3,7 +3,6 @@ use Prim.Native.Nat.{◌≤◌, ◌^◌}
 use native.Mathlib.Omega.{arith}
 use Rattle.vhdx_facts.specs.Geometry.{needed_entries}
 use Rattle.vhdx_facts.proofs.Laws.{counts, chunk-entries}
-use borrow.Author.Rules.{rules}
 use Rattle.vhdx_facts.proofs.geometry.needed_entries.Goals as goal
 
 pub overflow_add-result : goal.overflow_add-result

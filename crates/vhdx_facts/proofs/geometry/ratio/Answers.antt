@@ -4,7 +4,6 @@ use Prim.Native.Nat.{ℕ, ◌*◌, ◌/◌, ◌^◌}
 use native.Mathlib.Omega.{arith}
 use Rattle.vhdx_facts.specs.Geometry.{ratio}
 use Rattle.vhdx_facts.proofs.Laws.{sizes}
-use borrow.Author.Rules.{rules}
 use Rattle.vhdx_facts.proofs.geometry.ratio.Goals as goal
 
 pub overflow_mul-result : goal.overflow_mul-result

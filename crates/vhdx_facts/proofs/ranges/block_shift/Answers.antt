@@ -4,7 +4,6 @@ use mathlib.Core.Bool.{true, false}
 use Prim.Native.Nat.{ℕ, ◌^◌, ◌<◌}
 use native.Mathlib.Omega.{arith}
 use lib.Dec.{ltb}
-use borrow.Author.Tests.{ne_eqb}
 use Rattle.vhdx_facts.specs.Ranges.{block_size_rule}
 use Rattle.vhdx_facts.proofs.ranges.block_shift.Goals as goal
 
@@ -62,4 +61,3 @@ pub returns-in-268435456 : goal.returns-in-268435456
 returns-in-268435456 c =
     let parts = size c.args.n _ 28 c.in-268435456.is refl refl refl (omega arith) in
     record { result_value = parts.0; result_value_2 = parts.1.0; upper_bound = parts.1.1 }
-

@@ -1,5 +1,4 @@
 -- `vhdx_facts::ranges::is_block_size` meets its contract: only a size has a logarithm here.
-use borrow.Author.Rules.{rules}
 use Rattle.vhdx_facts.proofs.ranges.is_block_size.Goals as goal
 
 pub returns : goal.returns

@@ -1,6 +1,5 @@
 -- `vhdx_facts::ranges::is_disk_size` meets its contract: it has the definition's tests.
 use Rattle.vhdx_facts.specs.Ranges.{disk_size_rule}
-use borrow.Author.Rules.{rules}
 use Rattle.vhdx_facts.proofs.ranges.is_disk_size.Goals as goal
 
 pub returns : goal.returns

@@ -1,7 +1,6 @@
 -- `vhdx_metadata::entry::are_distinct` meets its contract: the identifiers are compared as numbers.
 use native.Mathlib.Omega.{arith}
 use Rattle.field.proofs.Laws.{number_at}
-use borrow.Author.Rules.{rules}
 use Rattle.vhdx_metadata.proofs.entry.are_distinct.Goals as goal
 
 pub returns : goal.returns

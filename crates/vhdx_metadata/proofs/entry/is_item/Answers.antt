@@ -2,7 +2,6 @@
 use native.Mathlib.Omega.{arith}
 use Rattle.vhdx_metadata.specs.Known.{known_items}
 use Rattle.field.proofs.Laws.{number_at}
-use borrow.Author.Rules.{rules}
 use Rattle.vhdx_metadata.proofs.entry.is_item.Goals as goal
 
 pub is_row-requires : goal.is_row-requires

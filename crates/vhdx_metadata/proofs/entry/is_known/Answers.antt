@@ -4,7 +4,6 @@ use mathlib.Core.Bool.{not, and-true, and-false}
 use native.Mathlib.Omega.{arith}
 use Rattle.vhdx_metadata.specs.Table.{is_user}
 use Rattle.vhdx_metadata.proofs.Laws.{known-by-row}
-use borrow.Author.Rules.{rules}
 use Rattle.vhdx_metadata.proofs.entry.is_known.Goals as goal
 
 pub returns-in-Nothing : goal.returns-in-Nothing

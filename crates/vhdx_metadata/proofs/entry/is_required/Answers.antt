@@ -1,5 +1,4 @@
 -- `vhdx_metadata::entry::is_required` meets its contract.
-use borrow.Author.Rules.{rules}
 use Rattle.vhdx_metadata.proofs.entry.is_required.Goals as goal
 
 pub returns : goal.returns

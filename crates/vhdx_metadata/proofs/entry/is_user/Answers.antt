@@ -1,5 +1,4 @@
 -- `vhdx_metadata::entry::is_user` meets its contract.
-use borrow.Author.Rules.{rules}
 use Rattle.vhdx_metadata.proofs.entry.is_user.Goals as goal
 
 pub returns : goal.returns

@@ -2,7 +2,6 @@
 use native.Mathlib.Omega.{arith}
 use Rattle.vhdx_metadata.specs.Items.{extent_of}
 use Rattle.vhdx_metadata.proofs.Laws.{found_below}
-use borrow.Author.Rules.{rules}
 use Rattle.vhdx_metadata.proofs.item.extent.Goals as goal
 
 pub entry-requires : goal.entry-requires

@@ -1,15 +1,11 @@
 -- `vhdx_metadata::item::five_are_there` meets its contract: the first ones are there.
-use mathlib.Core.Path.{◌≡◌, sym, ◌∙◌}
-use mathlib.Core.Bool.{true, false}
+use mathlib.Core.Path.{◌≡◌}
+use mathlib.Core.Bool.{true}
 use Prim.Native.Nat.{◌-◌, ◌≤◌}
-use native.Mathlib.Omega.{arith}
 use lib.ListN.{length}
-use borrow.Author.Tests.{not-true, not-false}
 use Rattle.decision.specs.Bounded.{every}
-use Rattle.decision.proofs.Laws.{every_more, every-end, every-not}
 use Rattle.vhdx_metadata.specs.Table.{table_rule}
 use Rattle.vhdx_metadata.specs.Items.{is_there}
-use borrow.Author.Rules.{rules}
 use Rattle.vhdx_metadata.proofs.item.five_are_there.Given as goal
 
 abbrev pub invariant-loop-row : goal.invariant-loop-row

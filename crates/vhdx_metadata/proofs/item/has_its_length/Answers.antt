@@ -1,5 +1,4 @@
 -- `vhdx_metadata::item::has_its_length` meets its contract.
-use borrow.Author.Rules.{rules}
 use Rattle.vhdx_metadata.proofs.item.has_its_length.Goals as goal
 
 pub returns : goal.returns

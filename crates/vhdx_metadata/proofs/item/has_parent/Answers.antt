@@ -2,7 +2,6 @@
 use native.Mathlib.Omega.{arith}
 use Rattle.vhdx_metadata.specs.Known.{known_lengths}
 use Rattle.vhdx_metadata.specs.Items.{has_parent_of}
-use borrow.Author.Rules.{rules}
 use Rattle.vhdx_metadata.proofs.item.has_parent.Goals as goal
 
 pub u32_at-requires : goal.u32_at-requires

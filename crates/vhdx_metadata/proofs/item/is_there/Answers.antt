@@ -2,7 +2,6 @@
 use native.Mathlib.Omega.{arith}
 use Rattle.vhdx_metadata.specs.Items.{is_there}
 use Rattle.vhdx_metadata.proofs.Laws.{found_below}
-use borrow.Author.Rules.{rules}
 use Rattle.vhdx_metadata.proofs.item.is_there.Goals as goal
 
 pub entry-requires : goal.entry-requires

@@ -1,6 +1,5 @@
 -- `vhdx_metadata::location::keeps_rule` meets its contract: each test is the rule that stands there.
 use Rattle.vhdx_metadata.specs.Table.{location_rule}
-use borrow.Author.Rules.{rules}
 use Rattle.vhdx_metadata.proofs.location.keeps_rule.Goals as goal
 
 pub returns : goal.returns

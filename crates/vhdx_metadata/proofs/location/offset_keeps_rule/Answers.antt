@@ -1,7 +1,6 @@
 -- `vhdx_metadata::location::offset_keeps_rule` meets its contract.
 use native.Mathlib.Omega.{arith}
 use borrow.Author.Tests.{eq-eqb, ne_eqb}
-use borrow.Author.Rules.{rules}
 use Rattle.vhdx_metadata.proofs.location.offset_keeps_rule.Goals as goal
 
 pub returns-then-item-eq0 : goal.returns-then-item-eq0

@@ -1,7 +1,6 @@
 -- `vhdx_metadata::table::count` meets its contract: the rule limits it.
 use native.Mathlib.Omega.{arith}
 use Rattle.vhdx_metadata.proofs.Laws.{count-limit}
-use borrow.Author.Rules.{rules}
 use Rattle.vhdx_metadata.proofs.table.count.Goals as goal
 
 pub returns : goal.returns

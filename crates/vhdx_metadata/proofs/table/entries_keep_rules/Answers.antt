@@ -1,13 +1,10 @@
 -- `vhdx_metadata::table::entries_keep_rules` meets its contract: the first i keep them.
 use mathlib.Core.Path.{◌≡◌, sym, ◌∙◌}
 use mathlib.Core.Bool.{true, false}
-use Prim.Native.Nat.{◌-◌, ◌≤◌}
 use native.Mathlib.Omega.{arith}
-use lib.ListN.{length}
 use borrow.Author.Tests.{not-true, not-false}
 use Rattle.decision.specs.Bounded.{every}
 use Rattle.decision.proofs.Laws.{every_more, every-end, every-not}
-use Rattle.vhdx_metadata.specs.Known.{known_items}
 use Rattle.vhdx_metadata.specs.Table.{entry_count, entry_rule, entries_rule}
 use borrow.Author.Rules.{rules}
 use mathlib.Core.Path.{ap}

@@ -3,7 +3,6 @@ use Prim.Native.Nat.{◌+◌, ◌*◌}
 use native.Mathlib.Omega.{arith}
 use Rattle.extent.proofs.Parts.{part-taken}
 use Rattle.vhdx_metadata.specs.Table.{entry}
-use borrow.Author.Rules.{rules}
 use Rattle.vhdx_metadata.proofs.table.entry.Goals as goal
 
 pub returns : goal.returns

@@ -1,7 +1,6 @@
 -- `vhdx_metadata::table::entry_keeps_rule` meets its contract.
 use mathlib.Core.Path.{sym, ◌∙◌}
 use Rattle.vhdx_metadata.specs.Table.{entry_rule}
-use borrow.Author.Rules.{rules}
 use Rattle.vhdx_metadata.proofs.table.entry_keeps_rule.Goals as goal
 
 pub returns-then-keeps_rule : goal.returns-then-keeps_rule

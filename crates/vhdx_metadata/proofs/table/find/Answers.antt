@@ -1,16 +1,11 @@
 -- `vhdx_metadata::table::find` meets its contract: no entry before i is that item's.
 use mathlib.Core.Path.{◌≡◌, sym, ◌∙◌}
-use mathlib.Core.Bool.{Bool, true, false}
-use mathlib.Core.List.{List}
-use mathlib.Core.Option.{none}
-use Prim.Native.Nat.{ℕ, ◌-◌, ◌≤◌, ◌<◌}
+use mathlib.Core.Bool.{true, false}
 use native.Mathlib.Omega.{arith}
-use lib.ListN.{length}
 use Rattle.decision.specs.Bounded.{first}
 use Rattle.decision.proofs.Laws.{first_more, first-end, first-hit}
-use Rattle.vhdx_metadata.specs.Known.{known_items}
-use Rattle.vhdx_metadata.specs.Table.{entry_count, entry}
-use Rattle.vhdx_metadata.specs.Items.{is_item, entry_of}
+use Rattle.vhdx_metadata.specs.Table.{entry_count}
+use Rattle.vhdx_metadata.specs.Items.{entry_of}
 use borrow.Author.Rules.{rules}
 use Rattle.vhdx_metadata.proofs.table.find.Invariants.{is_row_of}
 use Rattle.vhdx_metadata.proofs.table.find.Goals as goal

@@ -1,17 +1,14 @@
 -- `vhdx_metadata::table::find` meets its contract: no entry before i is that item's.
-use mathlib.Core.Path.{◌≡◌, sym, ◌∙◌}
-use mathlib.Core.Bool.{Bool, true, false}
+use mathlib.Core.Path.{◌≡◌}
+use mathlib.Core.Bool.{Bool}
 use mathlib.Core.List.{List}
 use mathlib.Core.Option.{none}
 use Prim.Native.Nat.{ℕ, ◌-◌, ◌≤◌, ◌<◌}
-use native.Mathlib.Omega.{arith}
 use lib.ListN.{length}
 use Rattle.decision.specs.Bounded.{first}
-use Rattle.decision.proofs.Laws.{first_more, first-end, first-hit}
 use Rattle.vhdx_metadata.specs.Known.{known_items}
-use Rattle.vhdx_metadata.specs.Table.{entry_count, entry}
-use Rattle.vhdx_metadata.specs.Items.{is_item, entry_of}
-use borrow.Author.Rules.{rules}
+use Rattle.vhdx_metadata.specs.Table.{entry}
+use Rattle.vhdx_metadata.specs.Items.{is_item}
 use Rattle.vhdx_metadata.proofs.table.find.Given as goal
 
 abbrev pub is_row_of : List ℕ → ℕ → ℕ → Bool

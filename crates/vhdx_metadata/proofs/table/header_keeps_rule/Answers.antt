@@ -1,6 +1,5 @@
 -- `vhdx_metadata::table::header_keeps_rule` meets its contract.
 use Rattle.vhdx_metadata.specs.Table.{table_rule}
-use borrow.Author.Rules.{rules}
 use Rattle.vhdx_metadata.proofs.table.header_keeps_rule.Goals as goal
 
 pub returns : goal.returns

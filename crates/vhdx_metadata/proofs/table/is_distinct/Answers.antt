@@ -1,14 +1,10 @@
 -- `vhdx_metadata::table::is_distinct` meets its contract: the first j are distinct from it.
 use mathlib.Core.Path.{◌≡◌, sym, ◌∙◌}
-use mathlib.Core.Bool.{Bool, true, false}
-use mathlib.Core.List.{List}
-use Prim.Native.Nat.{ℕ, ◌-◌, ◌≤◌, ◌<◌}
+use mathlib.Core.Bool.{true, false}
 use native.Mathlib.Omega.{arith}
-use lib.ListN.{length}
 use borrow.Author.Tests.{not-true, not-false}
 use Rattle.decision.specs.Bounded.{every}
 use Rattle.decision.proofs.Laws.{every_more, every-end, every-not}
-use Rattle.vhdx_metadata.specs.Table.{entry, unique_rule}
 use borrow.Author.Rules.{rules}
 use Rattle.vhdx_metadata.proofs.table.is_distinct.Invariants.{distinct}
 use mathlib.Core.Path.{ap}

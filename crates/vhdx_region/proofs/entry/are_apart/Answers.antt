@@ -2,7 +2,6 @@
 use native.Mathlib.Omega.{arith}
 use Rattle.vhdx_region.proofs.Entries.{identified}
 use Rattle.vhdx_region.specs.Region.{pair_rule}
-use borrow.Author.Rules.{rules}
 use Rattle.vhdx_region.proofs.entry.are_apart.Goals as goal
 
 pub returns : goal.returns

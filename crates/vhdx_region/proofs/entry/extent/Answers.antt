@@ -1,5 +1,4 @@
 -- `vhdx_region::entry::extent` meets its contract.
-use borrow.Author.Rules.{rules}
 use Rattle.vhdx_region.proofs.entry.extent.Goals as goal
 
 pub returns : goal.returns

@@ -10,7 +10,6 @@ use Rattle.field.specs.Fields.{guid_at, number}
 use Rattle.guid.specs.Stored.{row_of}
 use Rattle.vhdx_region.proofs.Entries.{identified}
 use Rattle.vhdx_region.specs.Region.{known_regions, identifier}
-use borrow.Author.Rules.{rules}
 use Rattle.vhdx_region.proofs.entry.required_keeps_rule.Goals as goal
 
 row_is : (e : List ℕ) {known : List (List ℕ)} {g : Guid} {o : Option ℕ} → length e ≡ 32 → known ≡ known_regions

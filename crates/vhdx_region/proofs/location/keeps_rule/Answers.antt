@@ -1,6 +1,5 @@
 -- `vhdx_region::location::keeps_rule` meets its contract: each test is the rule that stands there.
 use Rattle.vhdx_region.specs.Region.{location_rule}
-use borrow.Author.Rules.{rules}
 use Rattle.vhdx_region.proofs.location.keeps_rule.Goals as goal
 
 pub returns : goal.returns

@@ -1,7 +1,6 @@
 -- `vhdx_region::table::count` meets its contract: a valid table has at most 2,047.
 use native.Mathlib.Omega.{arith}
 use Rattle.vhdx_region.proofs.Entries.{few}
-use borrow.Author.Rules.{rules}
 use Rattle.vhdx_region.proofs.table.count.Goals as goal
 
 pub returns : goal.returns

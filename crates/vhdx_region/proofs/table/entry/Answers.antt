@@ -3,7 +3,6 @@ use native.Mathlib.Omega.{arith}
 use Prim.Native.Nat.{◌+◌, ◌*◌}
 use Rattle.extent.proofs.Parts.{part-taken}
 use Rattle.vhdx_region.specs.Region.{entry}
-use borrow.Author.Rules.{rules}
 use Rattle.vhdx_region.proofs.table.entry.Goals as goal
 
 pub returns : goal.returns

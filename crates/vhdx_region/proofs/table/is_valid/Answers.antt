@@ -1,6 +1,5 @@
 -- `vhdx_region::table::is_valid` meets its contract: each test is the rule that stands there.
 use Rattle.vhdx_region.specs.Region.{valid_table}
-use borrow.Author.Rules.{rules}
 use Rattle.vhdx_region.proofs.table.is_valid.Goals as goal
 
 pub returns : goal.returns

@@ -1,7 +1,6 @@
 -- `vhdx_region::table::keeps_rules` meets its contract: the first i entries keep their rule.
 use mathlib.Core.Path.{◌≡◌, sym, ◌∙◌}
 use mathlib.Core.Bool.{true, false}
-use Prim.Native.Nat.{◌-◌, ◌≤◌}
 use native.Mathlib.Omega.{arith}
 use borrow.Author.Tests.{not-true, not-false}
 use Rattle.decision.specs.Bounded.{every}

@@ -1,14 +1,10 @@
 -- `vhdx_region::table::stands_apart` meets its contract: entry i is apart from the first j.
-use mathlib.Core.Path.{◌≡◌, sym, ap₂, ◌∙◌}
-use mathlib.Core.Bool.{Bool, true, false}
+use mathlib.Core.Path.{◌≡◌}
+use mathlib.Core.Bool.{Bool, true}
 use mathlib.Core.List.{List}
 use Prim.Native.Nat.{ℕ, ◌-◌, ◌≤◌}
-use native.Mathlib.Omega.{arith}
-use borrow.Author.Tests.{not-true, not-false}
 use Rattle.decision.specs.Bounded.{every}
-use Rattle.decision.proofs.Laws.{every_more, every-end, every-not}
 use Rattle.vhdx_region.specs.Region.{entry, pair_rule}
-use borrow.Author.Rules.{rules}
 use Rattle.vhdx_region.proofs.table.stands_apart.Given as goal
 
 abbrev pub rule : List ℕ → ℕ → ℕ → Bool
