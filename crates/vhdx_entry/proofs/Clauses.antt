@@ -13,7 +13,6 @@ use borrow.Author.Tests.{eq-eqb, ne_eqb, lt-leb, le-leb, leb-true}
 use Rattle.decision.specs.Bounded.{every, only_if}
 use Rattle.decision.proofs.Laws.{only_if-none, only_if-some}
 use Rattle.field.specs.declared.Guid.{Guid}
-use Rattle.field.specs.Fields.{number}
 use Rattle.crc32c.specs.Crc.{crc, zeroed}
 use Rattle.vhdx_entry.specs.Ring.{ring, sector_at}
 use Rattle.vhdx_entry.specs.Entry.{checksum, entry_length, tail, sequence_number_of, descriptor_count, descriptor_sectors, descriptor, data_before, data_count, size, descriptor_rule, data_sector_rule, header_rule, signature_rule, guid_rule, tail_rule, number_rule, fits_rule, descriptors_rule, entry_length_rule, data_sectors_rule, checksum_rule, valid_entry, contents, entry_at, tally_of}

@@ -6,7 +6,6 @@ use lib.ListN.{length}
 use Rattle.vhdx_entry.specs.Entry.{header_rule}
 use Rattle.vhdx_entry.proofs.Laws.{in-first}
 use Rattle.vhdx_entry.proofs.Clauses.{header-in, bad-header, no_size, size_is, size_fits, bad-end, valid-at}
-use borrow.Author.Rules.{rules}
 use Rattle.vhdx_entry.proofs.read.Goals as goal
 
 pub size-requires : goal.size-requires

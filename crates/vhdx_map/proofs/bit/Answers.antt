@@ -4,7 +4,6 @@ use lib.ListN.{length}
 use Rattle.bitmap.specs.Bitmap.{bit}
 use Rattle.vhdx_map.specs.Lookup.{bitmap_byte}
 use Rattle.vhdx_map.proofs.Laws.{bitmap-inside}
-use borrow.Author.Rules.{rules}
 use Rattle.vhdx_map.proofs.bit.Goals as goal
 
 pub part-requires : goal.part-requires

@@ -2,7 +2,6 @@
 use mathlib.Core.Path.{sym, ◌∙◌}
 use native.Mathlib.Omega.{arith}
 use Rattle.vhdx_map.proofs.Laws.{stored-inside}
-use borrow.Author.Rules.{rules}
 use Rattle.vhdx_map.proofs.fully_present.Goals as goal
 
 pub offset-requires : goal.offset-requires

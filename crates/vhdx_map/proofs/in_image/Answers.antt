@@ -3,7 +3,6 @@ use mathlib.Core.Path.{sym, ◌∙◌}
 use lib.ListN.{length}
 use Rattle.vhdx_fit.proofs.Laws.{sizes-kept}
 use Rattle.vhdx_map.specs.Lookup.{partial_in, located, in_image_at}
-use borrow.Author.Rules.{rules}
 use Rattle.vhdx_map.proofs.in_image.Goals as goal
 
 pub fully_present-requires : goal.fully_present-requires

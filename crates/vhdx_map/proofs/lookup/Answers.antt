@@ -9,7 +9,6 @@ use borrow.Author.Tests.{not-true, not-false, lt-ltb, le-ltb}
 use Rattle.vhdx_fit.specs.Fit.{facts_fit}
 use Rattle.vhdx_fit.proofs.Laws.{within-capacity, sizes-kept}
 use Rattle.vhdx_map.specs.Lookup.{sector_rule, lookup}
-use borrow.Author.Rules.{rules}
 use mathlib.Core.Path.{ap}
 use mathlib.Core.Bool.{not}
 use Rattle.vhdx_map.proofs.lookup.Goals as goal

@@ -1,7 +1,6 @@
 -- `vhdx_map::offset` meets its contract: the sector starts inside its block, and that ends below 2^64.
 use native.Mathlib.Omega.{arith}
 use Rattle.vhdx_map.proofs.Laws.{into-block-below}
-use borrow.Author.Rules.{rules}
 use Rattle.vhdx_map.proofs.offset.Goals as goal
 
 pub overflow_add-result : goal.overflow_add-result

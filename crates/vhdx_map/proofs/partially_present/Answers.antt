@@ -6,7 +6,6 @@ use borrow.Author.Tests.{not-true, not-false}
 use Rattle.vhdx_fit.proofs.Laws.{sizes-kept}
 use Rattle.vhdx_map.specs.Lookup.{partial_in}
 use Rattle.vhdx_map.proofs.Laws.{stored-inside}
-use borrow.Author.Rules.{rules}
 use mathlib.Core.Path.{ap}
 use mathlib.Core.Bool.{not}
 use Rattle.vhdx_map.proofs.partially_present.Goals as goal

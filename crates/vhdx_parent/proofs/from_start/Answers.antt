@@ -1,7 +1,6 @@
 -- `vhdx_parent::from_start` meets its contract: nothing stays nowhere.
 use native.Mathlib.Omega.{arith}
 use borrow.Author.Tests.{lt-ltb, le-ltb}
-use borrow.Author.Rules.{rules}
 use Rattle.vhdx_parent.proofs.from_start.Goals as goal
 
 pub returns-then-e-gt0 : goal.returns-then-e-gt0

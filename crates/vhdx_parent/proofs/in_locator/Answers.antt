@@ -4,7 +4,6 @@ use native.Mathlib.Omega.{arith}
 use Rattle.extent.specs.declared.Extent.{Extent}
 use Rattle.vhdx_locator.proofs.Laws.{value-inside}
 use Rattle.vhdx_parent.specs.Key.{in_locator}
-use borrow.Author.Rules.{rules}
 use Rattle.vhdx_parent.proofs.in_locator.Goals as goal
 
 pub from_start-requires : goal.from_start-requires

@@ -4,7 +4,6 @@ use native.Mathlib.Omega.{arith}
 use Rattle.extent.specs.declared.Extent.{Extent}
 use Rattle.extent.specs.Extent.{part, onward}
 use Rattle.vhdx_parent.proofs.Laws.{key-inside}
-use borrow.Author.Rules.{rules}
 use Rattle.vhdx_parent.proofs.value.Goals as goal
 
 pub part-requires : goal.part-requires

@@ -6,7 +6,6 @@ use lib.Seq.{length-take-le}
 use borrow.Author.Tests.{not-true, not-false}
 use Rattle.vhdx_fit.proofs.Laws.{within-capacity, locator-inside}
 use Rattle.vhdx_parent.specs.Key.{key_extent}
-use borrow.Author.Rules.{rules}
 use mathlib.Core.Path.{ap}
 use mathlib.Core.Bool.{not}
 use Rattle.vhdx_parent.proofs.value_extent.Goals as goal

@@ -1,11 +1,8 @@
 -- `vhdx_sequence::active` meets its contract. The invariant of its loop: the scan has come to the place in the sense of
 use mathlib.Core.Path.{sym, ap, ◌∙◌}
-use Prim.Native.Nat.{◌+◌, ◌-◌, ◌≤◌, ◌<◌}
 use native.Mathlib.Omega.{arith}
-use borrow.Author.Rules.{rules}
-use Rattle.vhdx_entry.specs.Ring.{sector_count, On}
 use Rattle.vhdx_sequence.specs.declared.lap.Place.{Place}
-use Rattle.vhdx_sequence.proofs.Turn.{Scanned, begun, within, finished, turn-empty, turn-valid, sized-here, takes}
+use Rattle.vhdx_sequence.proofs.Turn.{begun, within, finished, turn-empty, turn-valid, sized-here, takes}
 use Rattle.vhdx_sequence.proofs.active.Goals as goal
 
 pub loop-guid-init : goal.loop-guid-init

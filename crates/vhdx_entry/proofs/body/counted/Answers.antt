@@ -1,7 +1,6 @@
 -- `vhdx_entry::body::counted` meets its contract.
 use mathlib.Core.Path.{sym, ◌∙◌}
 use native.Mathlib.Nat.{add-zero}
-use borrow.Author.Rules.{rules}
 use Rattle.vhdx_entry.proofs.body.counted.Goals as goal
 
 pub returns-then-is_data : goal.returns-then-is_data

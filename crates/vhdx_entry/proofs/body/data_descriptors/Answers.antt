@@ -3,14 +3,13 @@ use mathlib.Core.Path.{◌≡◌, sym, ap, ◌∙◌}
 use mathlib.Core.Bool.{Bool, true, false, cond}
 use mathlib.Core.List.{List}
 use mathlib.Core.Option.{Option, some}
-use Prim.Native.Nat.{ℕ, ◌+◌, ◌-◌, ◌≤◌, ◌<◌}
+use Prim.Native.Nat.{ℕ, ◌+◌, ◌≤◌}
 use native.Mathlib.Omega.{arith}
-use lib.ListN.{length}
 use borrow.Author.Tests.{not-true, not-false}
 use Rattle.decision.specs.Bounded.{every, only_if}
 use Rattle.decision.proofs.Laws.{every_more, every-not}
-use Rattle.vhdx_entry.specs.Ring.{ring, On}
-use Rattle.vhdx_entry.specs.Entry.{descriptor, descriptor_start, descriptor_rule, is_data_descriptor, data_before}
+use Rattle.vhdx_entry.specs.Ring.{ring}
+use Rattle.vhdx_entry.specs.Entry.{descriptor, descriptor_rule, is_data_descriptor, data_before}
 use Rattle.vhdx_entry.proofs.Laws.{data-more}
 use borrow.Author.Rules.{rules}
 use Rattle.vhdx_entry.proofs.body.data_descriptors.Invariants.{all_rules}

@@ -1,18 +1,12 @@
 -- `vhdx_entry::body::data_descriptors` meets its contract: the first i keep their rule, and are counted.
-use mathlib.Core.Path.{◌≡◌, sym, ap, ◌∙◌}
-use mathlib.Core.Bool.{Bool, true, false, cond}
+use mathlib.Core.Path.{◌≡◌}
+use mathlib.Core.Bool.{Bool, true}
 use mathlib.Core.List.{List}
-use mathlib.Core.Option.{Option, some}
-use Prim.Native.Nat.{ℕ, ◌+◌, ◌-◌, ◌≤◌, ◌<◌}
-use native.Mathlib.Omega.{arith}
+use Prim.Native.Nat.{ℕ, ◌-◌, ◌≤◌, ◌<◌}
 use lib.ListN.{length}
-use borrow.Author.Tests.{not-true, not-false}
-use Rattle.decision.specs.Bounded.{every, only_if}
-use Rattle.decision.proofs.Laws.{every_more, every-not}
+use Rattle.decision.specs.Bounded.{every}
 use Rattle.vhdx_entry.specs.Ring.{ring, On}
-use Rattle.vhdx_entry.specs.Entry.{descriptor, descriptor_start, descriptor_rule, is_data_descriptor, data_before}
-use Rattle.vhdx_entry.proofs.Laws.{data-more}
-use borrow.Author.Rules.{rules}
+use Rattle.vhdx_entry.specs.Entry.{descriptor, descriptor_start, descriptor_rule, data_before}
 use Rattle.vhdx_entry.proofs.body.data_descriptors.Given as goal
 
 abbrev pub all_rules : List ℕ → ℕ → ℕ → ℕ → Bool

@@ -1,17 +1,11 @@
 -- `vhdx_entry::body::data_sectors` meets its contract: the first k are data sectors.
-use mathlib.Core.Path.{◌≡◌, sym, ap, ◌∙◌}
-use mathlib.Core.Bool.{Bool, true, false}
+use mathlib.Core.Path.{◌≡◌}
+use mathlib.Core.Bool.{Bool, true}
 use mathlib.Core.List.{List}
-use Prim.Native.Nat.{ℕ, ◌+◌, ◌-◌, ◌%◌, ◌≤◌, ◌<◌}
-use native.Mathlib.Omega.{arith}
-use borrow.Author.Tests.{not-true, not-false}
+use Prim.Native.Nat.{ℕ, ◌+◌, ◌-◌, ◌≤◌}
 use Rattle.decision.specs.Bounded.{every}
-use Rattle.decision.proofs.Laws.{every_more, every-end, every-not}
-use Rattle.vhdx_entry.specs.declared.ring.RingPos.{RingPos}
 use Rattle.vhdx_entry.specs.Ring.{ring, sector_at, On}
 use Rattle.vhdx_entry.specs.Entry.{data_sector_rule}
-use Rattle.vhdx_entry.proofs.Laws.{sector-on}
-use borrow.Author.Rules.{rules}
 use Rattle.vhdx_entry.proofs.body.data_sectors.Given as goal
 
 abbrev pub all_rules : List ℕ → ℕ → ℕ → ℕ → ℕ → Bool

@@ -4,7 +4,6 @@ use native.Mathlib.Omega.{arith}
 use Rattle.vhdx_entry.specs.Ring.{ring}
 use Rattle.vhdx_entry.proofs.Laws.{in-first}
 use Rattle.vhdx_entry.proofs.Clauses.{other_length, sector-broken, all-but-checksum}
-use borrow.Author.Rules.{rules}
 use Rattle.vhdx_entry.proofs.body.ends_well.Goals as goal
 
 pub returns-then-entry_length-size : goal.returns-then-entry_length-size

@@ -1,6 +1,5 @@
 -- `vhdx_entry::body::is_data_sector` meets its contract.
 use Rattle.vhdx_entry.specs.Entry.{data_sector_rule}
-use borrow.Author.Rules.{rules}
 use Rattle.vhdx_entry.proofs.body.is_data_sector.Goals as goal
 
 pub returns : goal.returns

@@ -5,7 +5,6 @@ use Rattle.vhdx_entry.specs.Ring.{ring}
 use Rattle.vhdx_entry.specs.Entry.{descriptor_sectors}
 use Rattle.vhdx_entry.proofs.Laws.{length-ring}
 use Rattle.vhdx_entry.proofs.Clauses.{too_many, descriptor-broken, data-fit, data-too-long}
-use borrow.Author.Rules.{rules}
 use Rattle.vhdx_entry.proofs.body.size.Goals as goal
 
 pub returns-then-pos-front : goal.returns-then-pos-front

@@ -7,7 +7,6 @@ use lib.ListN.{length, take, drop, length-drop}
 use lib.Seq.{length-take-le}
 use Rattle.vhdx_entry.specs.Entry.{descriptor}
 use Rattle.vhdx_entry.proofs.Laws.{ring-bytes}
-use borrow.Author.Rules.{rules}
 use Rattle.vhdx_entry.proofs.descriptor.at.Goals as goal
 
 pub returns : goal.returns

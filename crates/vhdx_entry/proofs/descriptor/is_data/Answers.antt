@@ -1,5 +1,4 @@
 -- `vhdx_entry::descriptor::is_data` meets its contract.
-use borrow.Author.Rules.{rules}
 use Rattle.vhdx_entry.proofs.descriptor.is_data.Goals as goal
 
 pub returns : goal.returns

@@ -1,6 +1,5 @@
 -- `vhdx_entry::descriptor::keeps_rule` meets its contract: each test is the rule that stands there.
 use Rattle.vhdx_entry.specs.Entry.{descriptor_rule}
-use borrow.Author.Rules.{rules}
 use Rattle.vhdx_entry.proofs.descriptor.keeps_rule.Goals as goal
 
 pub returns : goal.returns

@@ -1,5 +1,4 @@
 -- `vhdx_entry::header::is_marked` meets its contract.
-use borrow.Author.Rules.{rules}
 use Rattle.vhdx_entry.proofs.header.is_marked.Goals as goal
 
 pub returns : goal.returns

@@ -1,6 +1,5 @@
 -- `vhdx_entry::header::keeps_rules` meets its contract: each test is the rule that stands there.
 use Rattle.vhdx_entry.specs.Entry.{header_rule}
-use borrow.Author.Rules.{rules}
 use Rattle.vhdx_entry.proofs.header.keeps_rules.Goals as goal
 
 pub returns : goal.returns

@@ -1,6 +1,5 @@
 -- `vhdx_map::entry::is_stored` meets its contract: it has the definition's tests.
 use Rattle.vhdx_map.specs.Entry.{stored_rule}
-use borrow.Author.Rules.{rules}
 use Rattle.vhdx_map.proofs.entry.is_stored.Goals as goal
 
 pub returns : goal.returns

@@ -3,7 +3,6 @@ use native.Mathlib.Omega.{arith}
 use Rattle.vhdx_facts.proofs.Laws.{counts}
 use Rattle.vhdx_map.specs.Lookup.{bitmap_index}
 use Rattle.vhdx_map.proofs.Laws.{chunk_of, chunk_small}
-use borrow.Author.Rules.{rules}
 use Rattle.vhdx_map.proofs.sector.bitmap_index.Goals as goal
 
 pub bitmap_entry-requires : goal.bitmap_entry-requires

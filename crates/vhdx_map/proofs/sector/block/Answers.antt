@@ -4,7 +4,6 @@ use Prim.Native.Nat.{ℕ, ◌*◌, ◌/◌}
 use Rattle.vhdx_facts.proofs.Laws.{sizes}
 use Rattle.vhdx_map.specs.Lookup.{block_of}
 use Rattle.vhdx_map.proofs.Laws.{start_small}
-use borrow.Author.Rules.{rules}
 use Rattle.vhdx_map.proofs.sector.block.Goals as goal
 
 pub overflow_mul-result : goal.overflow_mul-result

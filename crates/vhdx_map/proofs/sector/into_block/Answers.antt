@@ -5,7 +5,6 @@ use native.Mathlib.Nat.{div-mul-le_self, mod-eq-sub-div-mul}
 use native.Mathlib.Omega.{arith}
 use Rattle.vhdx_map.specs.Lookup.{block_of, into_block}
 use Rattle.vhdx_map.proofs.Laws.{start_small}
-use borrow.Author.Rules.{rules}
 use Rattle.vhdx_map.proofs.sector.into_block.Goals as goal
 
 pub overflow_mul-result : goal.overflow_mul-result

@@ -3,7 +3,6 @@ use native.Mathlib.Omega.{arith}
 use Rattle.vhdx_facts.specs.Geometry.{block_entry}
 use Rattle.vhdx_map.specs.Lookup.{payload_index}
 use Rattle.vhdx_map.proofs.Laws.{block-small, chunk_of, chunk_small}
-use borrow.Author.Rules.{rules}
 use Rattle.vhdx_map.proofs.sector.payload_index.Goals as goal
 
 pub overflow_add-result : goal.overflow_add-result

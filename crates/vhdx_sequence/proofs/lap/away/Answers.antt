@@ -2,7 +2,6 @@
 use mathlib.Core.Path.{sym}
 use native.Mathlib.Nat.{mod-eq_of_lt}
 use native.Mathlib.Omega.{arith}
-use borrow.Author.Rules.{rules}
 use Rattle.vhdx_entry.proofs.Laws.{mod-round}
 use Rattle.vhdx_sequence.proofs.lap.away.Goals as goal
 

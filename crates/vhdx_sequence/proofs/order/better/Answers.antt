@@ -1,6 +1,5 @@
 -- `vhdx_sequence::order::better` meets its contract.
 use native.Mathlib.Omega.{arith}
-use borrow.Author.Rules.{rules}
 use borrow.Author.Tests.{lt-ltb, le-ltb, eq-eqb, ne_eqb}
 use Rattle.vhdx_sequence.proofs.order.better.Goals as goal
 

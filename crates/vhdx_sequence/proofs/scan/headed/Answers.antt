@@ -5,7 +5,6 @@ use Prim.Native.Nat.{ℕ, ◌-◌, ◌%◌}
 use native.Mathlib.Nat.{mod-lt}
 use native.Mathlib.Omega.{arith}
 use lib.Dec.{leb}
-use borrow.Author.Rules.{rules}
 use Rattle.vhdx_entry.specs.Entry.{signature_rule}
 use Rattle.vhdx_sequence.specs.Scan.{away}
 use Rattle.vhdx_sequence.proofs.scan.headed.Goals as goal

@@ -1,7 +1,6 @@
 -- `vhdx_sequence::scan::run_from` meets its contract.
 use Prim.Native.Nat.{◌+◌}
 use native.Mathlib.Omega.{arith}
-use borrow.Author.Rules.{rules}
 use borrow.Author.Tests.{eq-eqb, ne_eqb}
 use Rattle.vhdx_sequence.proofs.scan.run_from.Goals as goal
 

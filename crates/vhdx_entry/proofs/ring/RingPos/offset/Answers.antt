@@ -3,7 +3,6 @@ use mathlib.Core.Path.{ap}
 use Prim.Native.Nat.{◌+◌, ◌*◌, ◌%◌}
 use native.Mathlib.Omega.{arith}
 use Rattle.vhdx_entry.specs.declared.ring.RingPos.{RingPos}
-use borrow.Author.Rules.{rules}
 use Rattle.vhdx_entry.proofs.ring.RingPos.offset.Goals as goal
 
 pub returns : goal.returns

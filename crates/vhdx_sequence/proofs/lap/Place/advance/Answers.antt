@@ -1,7 +1,6 @@
 -- `vhdx_sequence::lap::Place::advance` meets its contract.
 use Prim.Native.Nat.{◌+◌}
 use mathlib.Core.Path.{ap}
-use borrow.Author.Rules.{rules}
 use Rattle.vhdx_entry.specs.declared.ring.RingPos.{RingPos}
 use Rattle.vhdx_sequence.specs.declared.lap.Place.{Place}
 use Rattle.vhdx_sequence.proofs.lap.Place.advance.Goals as goal

@@ -4,7 +4,6 @@ use mathlib.Core.List.{List}
 use mathlib.Core.Path.{ap, ◌∙◌}
 use Rattle.vhdx_entry.specs.Entry.{signature_rule, sequence_number_of}
 use Rattle.vhdx_sequence.specs.Scan.{state_of, run_from, taken_by}
-use borrow.Author.Rules.{rules}
 use Rattle.vhdx_sequence.proofs.scan.Trace.take.Goals as goal
 
 pub returns : goal.returns

@@ -10,7 +10,6 @@ use Rattle.vhdx_sequence.specs.Sequence.{better}
 use Rattle.vhdx_sequence.specs.Scan.{State, state_of, headed_by, taken_by}
 use Rattle.vhdx_sequence.specs.declared.Sequence.{Sequence}
 use Rattle.vhdx_sequence.specs.declared.lap.Place.{Place}
-use borrow.Author.Rules.{rules}
 use Rattle.vhdx_sequence.proofs.scan.Trace.take_by.Goals as goal
 
 made : (tail : List ℕ) (n u : ℕ) {r : ℕ} (st : State) (e : Entry) (start : Place) {q best : Option Sequence} → start.count ≡ r → start.pos.len ≡ n → q ≡ headed_by start.pos.len u start.count e (signature_rule tail) (sequence_number_of tail) → best ≡ better st.best q → ◌≡◌ {A = State} (record { start = start.count; next = u + e.size; number = e.number; best = best }) (taken_by n u r st e (signature_rule tail) (sequence_number_of tail))
