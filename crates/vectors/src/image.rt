@@ -10,11 +10,9 @@ pub const SLOT2: usize = 131072;
 // Stores the lowest n bytes of a number at an offset, as far as they fit.
 pub fn put(b: &mut Buffer, at: usize, n: usize, value: u64) {
     let mut x = value;
-    let mut i = 0;
-    while i < n {
+    for i in 0..n {
         store(b, at, i, (x % 256) as u8);
-        x = x / 256;
-        i += 1;
+        x /= 256;
     }
 }
 
