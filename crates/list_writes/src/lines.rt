@@ -1,67 +1,78 @@
 // The output. The lines of sectors are gathered in a buffer, which is printed when it is full and at the end.
-ghost use Rattle.std.specs.Prelude.{◌+◌, ◌≤◌, length as length_of};
+ghost use Rattle.std.specs.Prelude.{◌+◌, ◌≤◌, IfOk, length as length_of};
 
-use libc::STDOUT_FILENO;
+use std::io;
 use vhdx_replay::store;
 
 // A sector's line, behind the first `used` bytes of the buffer. Answers how many bytes are not printed yet.
-pub fn write(text: &mut [u8; 65536], used: usize, offset: u64, is_data: bool) -> usize
+pub fn write(
+    rt: &impl Print,
+    text: &mut [u8; 65536],
+    used: usize,
+    offset: u64,
+    is_data: bool,
+) -> io::Result<usize>
     requires { used ≤ 65536 }
-    ensures { result ≤ 65536 }
+    ensures { IfOk result (λ n. n ≤ 65536) }
 {
     let mut digits = [0u8; 20];
-    let n = io::decimal(offset, &mut digits);
-    let used = put_digits(text, used, &digits, n);
+    let start = itoa::write_digits(offset, &mut digits, 20);
+    let used = put_digits(rt, text, used, &digits, start)?;
     if is_data {
-        put(text, used, b" D\n")
+        put(rt, text, used, b" D\n")
     } else {
-        put(text, used, b" Z\n")
+        put(rt, text, used, b" Z\n")
     }
 }
 
-fn put_digits(text: &mut [u8; 65536], used: usize, digits: &[u8; 20], n: usize) -> usize
-    requires { (used ≤ 65536) × (n ≤ length_of digits.now) }
-    ensures { result ≤ 65536 }
+// The digits stand at the array's end, from `start` on.
+fn put_digits(
+    rt: &impl Print,
+    text: &mut [u8; 65536],
+    used: usize,
+    digits: &[u8; 20],
+    start: usize,
+) -> io::Result<usize>
+    requires { (used ≤ 65536) × (start ≤ length_of digits.now) }
+    ensures { IfOk result (λ n. n ≤ 65536) }
 {
     let view: &[u8] = digits;
-    put(text, used, &view[..n])
+    put(rt, text, used, &view[start..])
 }
 
-fn put(text: &mut [u8; 65536], used: usize, bytes: &[u8]) -> usize
+fn put(rt: &impl Print, text: &mut [u8; 65536], used: usize, bytes: &[u8]) -> io::Result<usize>
     requires { (used ≤ 65536) × (length_of bytes.now ≤ 65536) }
-    ensures { result ≤ 65536 }
+    ensures { IfOk result (λ n. n ≤ 65536) }
 {
-    let start = reserve(text, used, bytes.len());
+    let start = reserve(rt, text, used, bytes.len())?;
     store::bytes(text, start, bytes);
-    start + bytes.len()
+    Ok(start + bytes.len())
 }
 
 // Where n bytes more go: what is there is printed first where they do not fit behind it.
-fn reserve(text: &[u8; 65536], used: usize, n: usize) -> usize
+fn reserve(rt: &impl Print, text: &[u8; 65536], used: usize, n: usize) -> io::Result<usize>
     requires { (used ≤ 65536) × (n ≤ 65536) }
-    ensures { result + n ≤ 65536 }
+    ensures { IfOk result (λ start. start + n ≤ 65536) }
 {
     if n <= 65536 - used {
-        used
+        Ok(used)
     } else {
-        flush(text, used);
-        0
+        flush(rt, text, used)?;
+        Ok(0)
     }
 }
 
-pub fn flush(text: &[u8; 65536], used: usize)
+pub fn flush(rt: &impl Print, text: &[u8; 65536], used: usize) -> io::Result<()>
     requires { used ≤ 65536 }
 {
     let view: &[u8] = text;
-    io::write_all(STDOUT_FILENO, &view[..used]);
+    rt.write_all(&view[..used])
 }
 
-pub fn refused(number: u64) {
-    io::write_all(STDOUT_FILENO, b"refused ");
-    io::print_decimal(STDOUT_FILENO, number);
-    io::write_all(STDOUT_FILENO, b"\n");
+pub fn refused(rt: &impl Print, number: u64) -> io::Result<()> {
+    println!(rt; "refused {number}")
 }
 
-pub fn unreadable() {
-    io::write_all(STDOUT_FILENO, b"unreadable\n");
+pub fn unreadable(rt: &impl Print) -> io::Result<()> {
+    println!(rt; "unreadable")
 }

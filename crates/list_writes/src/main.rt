@@ -7,10 +7,15 @@
 mod lines;
 mod window;
 
-ghost use Rattle.std.specs.Prelude.{◌≡◌, ◌≤◌};
+ghost use Rattle.std.specs.Prelude.{◌≡◌, ◌≤◌, IfOk};
 ghost use Rattle.vhdx_pieces.specs.Machines.{Sane, Kept};
 ghost use Rattle.list_writes.specs.Driver.{asks_of, Ahead, Toward};
 
+use std::env::Env;
+use std::fs::File;
+use std::io::{Seek, SeekFrom};
+use std::os::unix::fs::FileExt;
+use std::{io, str};
 use vhdx_pieces::{Finish, Machine, Turn};
 use window::{Place, Window};
 
@@ -25,37 +30,34 @@ struct State {
     readable: bool,
 }
 
-fn main() {
-    let mut path = io::buffer();
-    let n = os::arg(1, &mut path);
-    if os::errno() != 0 {
-        lines::unreadable();
-        return;
+fn main(rt: HostRuntime) -> io::Result<()> {
+    match open(&rt) {
+        Some(file) => list(&rt, &file),
+        None => lines::unreadable(&rt),
     }
-    let fd = os::open_read(&path[..n]);
-    if fd < 0 {
-        lines::unreadable();
-        return;
-    }
-    list(fd);
-    libc::close(fd);
+}
+
+// The file that the argument names, if it can be read. Its name is UTF-8 text of fewer than 4,096 bytes.
+fn open(rt: &HostRuntime) -> Option<File> {
+    let mut path = [0u8; 4096];
+    let n = rt.arg(1, &mut path).ok()?;
+    let name = str::from_utf8(&path[..n]).ok()?;
+    File::open(rt, name).ok()
 }
 
 // The length is taken once. A directory may have one, but none of its bytes can be read.
-fn list(fd: i32) {
-    let length = libc::lseek(fd, 0, libc::SEEK_END);
+fn list(rt: &impl Print, file: &File) -> io::Result<()> {
+    let mut cursor = file;
     let mut byte = [0u8; 1];
-    let probed = libc::pread(fd, &mut byte, 0);
-    if (length < 0) | (probed < 0) {
-        lines::unreadable();
-    } else {
-        run(fd, window::natural(length));
+    match (cursor.seek(SeekFrom::End(0)), file.read_at(&mut byte, 0)) {
+        (Ok(length), Ok(_)) => run(rt, file, length),
+        _ => lines::unreadable(rt),
     }
 }
 
-fn run(fd: i32, length: u64) {
-    let mut bytes = io::large_buffer();
-    let mut text = io::large_buffer();
+fn run(rt: &impl Print, file: &File, length: u64) -> io::Result<()> {
+    let mut bytes = [0u8; 65536];
+    let mut text = [0u8; 65536];
     let mut used: usize = 0;
     let mut state = State {
         turn: vhdx_pieces::start(length, CAPACITY),
@@ -63,11 +65,11 @@ fn run(fd: i32, length: u64) {
         readable: true,
     };
     while asks(state) {
-        used = show(state, &mut text, used);
-        state = turn(fd, state, &mut bytes);
+        used = show(rt, state, &mut text, used)?;
+        state = turn(file, state, &mut bytes);
     }
-    lines::flush(&text, used);
-    end(state);
+    lines::flush(rt, &text, used)?;
+    end(rt, state)
 }
 
 fn asks(state: State) -> bool
@@ -84,47 +86,48 @@ fn asks(state: State) -> bool
 }
 
 // A write's line, behind those that are not printed yet.
-fn show(state: State, text: &mut [u8; 65536], used: usize) -> usize
+fn show(rt: &impl Print, state: State, text: &mut [u8; 65536], used: usize) -> io::Result<usize>
     requires { used ≤ 65536 }
-    ensures { result ≤ 65536 }
+    ensures { IfOk result (λ n. n ≤ 65536) }
 {
     let turn = state.turn;
     match turn {
         Turn::Write(m) => lines::write(
+            rt,
             text,
             used,
             vhdx_pieces::write_offset(m),
             vhdx_pieces::is_data(m),
         ),
-        Turn::Read(_) => used,
-        Turn::Grow(_) => used,
-        Turn::Done(_) => used,
-        Turn::Refused(_) => used,
+        Turn::Read(_) => Ok(used),
+        Turn::Grow(_) => Ok(used),
+        Turn::Done(_) => Ok(used),
+        Turn::Refused(_) => Ok(used),
     }
 }
 
 // The machine is handed in, with bytes where it wants any. Growth and writes count as done.
-fn turn(fd: i32, state: State, bytes: &mut [u8; 65536]) -> State
+fn turn(file: &File, state: State, bytes: &mut [u8; 65536]) -> State
     requires { Kept state.turn }
     ensures { Toward state.turn result.turn }
 {
     let turn = state.turn;
     let window = state.window;
     match turn {
-        Turn::Read(m) => hand_in(fd, m, window, bytes),
-        Turn::Grow(m) => hand_in(fd, m, window, bytes),
-        Turn::Write(m) => hand_in(fd, m, window, bytes),
+        Turn::Read(m) => hand_in(file, m, window, bytes),
+        Turn::Grow(m) => hand_in(file, m, window, bytes),
+        Turn::Write(m) => hand_in(file, m, window, bytes),
         Turn::Done(_) => state,
         Turn::Refused(_) => state,
     }
 }
 
-fn hand_in(fd: i32, m: Machine, window: Window, bytes: &mut [u8; 65536]) -> State
+fn hand_in(file: &File, m: Machine, window: Window, bytes: &mut [u8; 65536]) -> State
     requires { Sane m }
     ensures { Ahead m result.turn }
 {
     let wanted = vhdx_pieces::wanted(m);
-    let window = window::moved(fd, window, wanted, bytes);
+    let window = window::moved(file, window, wanted, bytes);
     match window.place(wanted) {
         Place::At(start) => {
             let end = start + wanted.length as usize;
@@ -146,17 +149,16 @@ fn hand_in(fd: i32, m: Machine, window: Window, bytes: &mut [u8; 65536]) -> Stat
     }
 }
 
-fn end(state: State) {
+fn end(rt: &impl Print, state: State) -> io::Result<()> {
     let turn = state.turn;
     if !state.readable {
-        lines::unreadable();
-        return;
+        return lines::unreadable(rt);
     }
     match turn {
-        Turn::Refused(number) => lines::refused(number),
-        Turn::Read(_) => {}
-        Turn::Grow(_) => {}
-        Turn::Write(_) => {}
-        Turn::Done(_) => {}
+        Turn::Refused(number) => lines::refused(rt, number),
+        Turn::Read(_) => Ok(()),
+        Turn::Grow(_) => Ok(()),
+        Turn::Write(_) => Ok(()),
+        Turn::Done(_) => Ok(()),
     }
 }

@@ -3,20 +3,14 @@ ghost use Rattle.std.specs.Prelude.{◌+◌, ◌≤◌, ◌<◌, ◌^◌, ◌≡
 ghost use Rattle.list_writes.specs.Driver.{Within};
 
 use extent::Extent;
-use vhdx_replay::store;
+use std::fs::File;
+use std::os::unix::fs::FileExt;
 
-// `lseek`'s word for the next byte that the file system keeps, and what it says where there is none.
-const SEEK_DATA: i32 = 3;
-
-const ENXIO: i32 = 6;
-
-// The first `count` bytes of the buffer are the file's from `at` on. Or the file has a hole of `hole` bytes there, and the buffer is
-// zeros.
+// The first `count` bytes of the buffer are the file's from `at` on.
 #[derive(Clone, Copy)]
 pub struct Window {
     pub at: u64,
     pub count: usize,
-    pub hole: u64,
 }
 
 // Where in the buffer it starts, or that it is not there whole.
@@ -27,59 +21,19 @@ pub enum Place {
 }
 
 pub fn empty() -> Window {
-    Window {
-        at: 0,
-        count: 0,
-        hole: 0,
-    }
+    Window { at: 0, count: 0 }
 }
 
 // A window in which what is wanted is whole, if it can be read.
-pub fn moved(fd: i32, window: Window, wanted: Extent, bytes: &mut [u8; 65536]) -> Window {
+pub fn moved(file: &File, window: Window, wanted: Extent, bytes: &mut [u8; 65536]) -> Window {
     match window.place(wanted) {
         Place::At(_) => window,
         Place::Missing => {
             let least = short(wanted.length);
             let most = window.ahead(wanted.offset, least);
-            if least < most {
-                beyond(fd, wanted.offset, least, most, bytes)
-            } else {
-                read(fd, wanted.offset, least, most, bytes)
-            }
+            read(file, wanted.offset, least, most, bytes)
         }
     }
-}
-
-// On a stretch that is read in order: a hole is not read at all.
-fn beyond(fd: i32, at: u64, least: usize, most: usize, bytes: &mut [u8; 65536]) -> Window
-    requires { (least ≤ most) × (most ≤ 65536) }
-{
-    let hole = hole_at(fd, at);
-    if hole < 65536 {
-        return read(fd, at, least, most, bytes);
-    }
-    store::zeros(bytes, 0, 65536);
-    Window { at, count: 0, hole }
-}
-
-// How many bytes from there on the file system keeps nothing of. A file reads as zeros there.
-fn hole_at(fd: i32, at: u64) -> u64 {
-    if 4611686018427387904 < at {
-        return 0;
-    }
-    let next = libc::lseek(fd, at as i64, SEEK_DATA);
-    if next >= 0 {
-        return behind(natural(next), at);
-    }
-    if os::errno() == ENXIO {
-        behind(natural(libc::lseek(fd, 0, libc::SEEK_END)), at)
-    } else {
-        0
-    }
-}
-
-fn behind(next: u64, at: u64) -> u64 {
-    if at < next { next - at } else { 0 }
 }
 
 impl Window {
@@ -93,12 +47,6 @@ impl Window {
             return Place::Missing;
         }
         let start = wanted.offset - self.at;
-        if start < self.hole {
-            if wanted.length <= short(self.hole - start) as u64 {
-                return Place::At(0);
-            }
-            return Place::Missing;
-        }
         let count = short(self.count as u64) as u64;
         if start <= count {
             if wanted.length <= count - start {
@@ -134,22 +82,22 @@ fn short(n: u64) -> usize
 }
 
 // From an offset of the file on; fewer than the least where the file ends or cannot be read.
-fn read(fd: i32, at: u64, least: usize, most: usize, bytes: &mut [u8; 65536]) -> Window
+fn read(file: &File, at: u64, least: usize, most: usize, bytes: &mut [u8; 65536]) -> Window
     requires { (least ≤ most) × (most ≤ 65536) }
 {
     if 4611686018427387904 < at {
         return empty();
     }
-    let count = fill(fd, at, least, most, bytes);
-    Window { at, count, hole: 0 }
+    let count = fill(file, at, least, most, bytes);
+    Window { at, count }
 }
 
-fn fill(fd: i32, at: u64, least: usize, most: usize, bytes: &mut [u8]) -> usize
+fn fill(file: &File, at: u64, least: usize, most: usize, bytes: &mut [u8]) -> usize
     requires { (least ≤ most) × (most ≤ 65536) × (most ≤ length_of bytes.old) × (at + 65536 < 2 ^ 63) }
 {
     let mut done: usize = 0;
     while done < least {
-        let n = read_some(fd, bytes, done, most, (at + done as u64) as i64);
+        let n = read_some(file, bytes, done, most, at + done as u64);
         if n == 0 {
             return done;
         }
@@ -159,17 +107,11 @@ fn fill(fd: i32, at: u64, least: usize, most: usize, bytes: &mut [u8]) -> usize
 }
 
 // What one call puts behind the first `done` of at most so many bytes: nothing where it fails or the file ends.
-fn read_some(fd: i32, bytes: &mut [u8], done: usize, most: usize, at: i64) -> usize
+fn read_some(file: &File, bytes: &mut [u8], done: usize, most: usize, at: u64) -> usize
     requires { (done ≤ most) × (most ≤ length_of bytes.old) }
     ensures result_bound { done + result ≤ most }
     ensures bytes_unchanged { length_of bytes.new ≡ length_of bytes.old }
 {
     let rest = &mut bytes[done..most];
-    let got = libc::pread(fd, rest, at);
-    io::count(got, rest)
-}
-
-// A length that the system answered, which is not negative.
-pub fn natural(x: i64) -> u64 {
-    if x > 0 { x as u64 } else { 0 }
+    file.read_at(rest, at).unwrap_or(0)
 }
