@@ -1,7 +1,6 @@
 -- `vhdx_log::log` meets its contract.
 use mathlib.Core.Path.{sym, ◌∙◌}
 use Rattle.vhdx_log.proofs.Answering.{log-none, log_is}
-use borrow.Author.Rules.{rules}
 use Rattle.vhdx_log.proofs.log.Goals as goal
 
 pub part-requires : goal.part-requires

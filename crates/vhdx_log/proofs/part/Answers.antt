@@ -1,7 +1,6 @@
 -- `vhdx_log::part` meets its contract: the slice is the log that the header names.
 use native.Mathlib.Omega.{arith}
 use Rattle.vhdx_log.proofs.Answering.{log-part, log-inside}
-use borrow.Author.Rules.{rules}
 use Rattle.vhdx_log.proofs.part.Goals as goal
 
 pub overflow_add-end : goal.overflow_add-end

@@ -2,7 +2,6 @@
 use mathlib.Core.Path.{sym, ap, ◌∙◌}
 use Rattle.vhdx_log.specs.Work.{count}
 use Rattle.vhdx_log.proofs.Answering.{planned, plan-refused}
-use borrow.Author.Rules.{rules}
 use Rattle.vhdx_log.proofs.plan.Goals as goal
 
 pub with_header-requires : goal.with_header-requires

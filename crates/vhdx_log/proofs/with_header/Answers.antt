@@ -5,7 +5,6 @@ use Prim.Native.Nat.{ℕ, ◌*◌, ◌%◌, ◌≤◌}
 use lib.ListN.{length}
 use Rattle.extent.specs.Extent.{mib}
 use Rattle.vhdx_log.proofs.Answering.{zero_number, log-placed, without, within}
-use borrow.Author.Rules.{rules}
 use Rattle.vhdx_log.proofs.with_header.Goals as goal
 
 pub returns-then-guid : goal.returns-then-guid

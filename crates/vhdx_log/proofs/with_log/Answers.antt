@@ -11,7 +11,6 @@ use Rattle.vhdx_walk.proofs.Chains.{walkable}
 use Rattle.vhdx_log.specs.Plan.{plan_sequence}
 use Rattle.vhdx_log.specs.Answers.{Stands}
 use Rattle.vhdx_log.proofs.Answering.{refusal}
-use borrow.Author.Rules.{rules}
 use Rattle.vhdx_log.proofs.with_log.Goals as goal
 
 pub sequence-requires : goal.sequence-requires

@@ -1,7 +1,6 @@
 -- `vhdx_replay::first_steps` meets its contract: growth leaves the log, and the sectors written are what the steps give.
 use mathlib.Core.Path.{◌∙◌}
 use Rattle.vhdx_replay.proofs.Applying.{known, grown-inside, start-ready, writable, replayed}
-use borrow.Author.Rules.{rules}
 use Rattle.vhdx_replay.proofs.first_steps.Goals as goal
 
 pub grow-requires : goal.grow-requires

@@ -1,5 +1,4 @@
 -- `vhdx_replay::grow` meets its contract: zeros up to the final length, and no further.
-use borrow.Author.Rules.{rules}
 use Rattle.vhdx_replay.proofs.grow.Goals as goal
 
 pub returns : goal.returns

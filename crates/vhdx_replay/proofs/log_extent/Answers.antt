@@ -1,7 +1,6 @@
 -- `vhdx_replay::log_extent` meets its contract: by the header that is read.
 use mathlib.Core.Path.{sym, ap, ◌∙◌}
 use Rattle.vhdx_replay.specs.Planned.{extent_by, log_extent}
-use borrow.Author.Rules.{rules}
 use Rattle.vhdx_replay.proofs.log_extent.Goals as goal
 
 pub returns-in-Refused : goal.returns-in-Refused

@@ -2,7 +2,6 @@
 use mathlib.Core.Path.{sym, ◌∙◌}
 use Rattle.vhdx_replay.proofs.Applying.{inside}
 use Rattle.vhdx_replay.proofs.Chosen.{nth-ready, no-sector, past_the_end, written, fits, held}
-use borrow.Author.Rules.{rules}
 use Rattle.vhdx_replay.proofs.one_sector.Goals as goal
 
 pub part-requires : goal.part-requires

@@ -6,7 +6,6 @@ use lib.ListN.{length, drop}
 use Rattle.extent.specs.Extent.{part}
 use Rattle.vhdx_walk.specs.Walk.{sectors_left, Ready, Settled}
 use Rattle.vhdx_replay.proofs.Next.{fits, written, held, unchanged, past}
-use borrow.Author.Rules.{rules}
 use Rattle.vhdx_replay.proofs.write_next.Goals as goal
 
 pub current-requires : goal.current-requires

@@ -1,7 +1,6 @@
 -- `vhdx_replay::write_sectors` meets its contract: what is left, written from here, gives what all of them give.
-use Prim.Native.Nat.{◌-◌}
 use native.Mathlib.Omega.{arith}
-use Rattle.vhdx_replay.proofs.Loop.{Going, begin, inside-now, writable_now, more, done}
+use Rattle.vhdx_replay.proofs.Loop.{begin, inside-now, writable_now, more, done}
 use Rattle.vhdx_replay.proofs.write_sectors.Goals as goal
 
 pub loop-k-init : goal.loop-k-init

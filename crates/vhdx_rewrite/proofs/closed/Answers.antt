@@ -9,7 +9,6 @@ use Rattle.field.specs.Fields.{le_bytes}
 use Rattle.field.proofs.Bytes.{le-bytes-long}
 use Rattle.vhdx_rewrite.specs.Rewrite.{new_checksum, closed_header}
 use Rattle.vhdx_steps.proofs.Bytes.{put-length}
-use borrow.Author.Rules.{rules}
 use Rattle.vhdx_rewrite.proofs.closed.Goals as goal
 
 pub returns : goal.returns

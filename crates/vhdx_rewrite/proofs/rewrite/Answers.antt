@@ -3,7 +3,6 @@ use mathlib.Core.Path.{ap, ◌∙◌}
 use native.Mathlib.Omega.{arith}
 use lib.ListN.{length}
 use Rattle.vhdx_rewrite.proofs.Rewriting.{rewritten-long, rewrite-is}
-use borrow.Author.Rules.{rules}
 use Rattle.vhdx_rewrite.proofs.rewrite.Goals as goal
 
 pub returns : goal.returns

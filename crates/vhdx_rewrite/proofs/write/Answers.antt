@@ -1,7 +1,6 @@
 -- `vhdx_rewrite::write` meets its contract.
 use native.Mathlib.Omega.{arith}
 use Rattle.vhdx_rewrite.proofs.Writing.{low, fits, other_fits, part-fits, written, wide}
-use borrow.Author.Rules.{rules}
 use mathlib.Core.Path.{refl}
 use Rattle.vhdx_rewrite.proofs.write.Goals as goal
 

@@ -1,6 +1,5 @@
 -- `vhdx_walk::load` meets its contract.
 use Rattle.vhdx_walk.proofs.Sectors.{follows-done, follows-entry, follows-run}
-use borrow.Author.Rules.{rules}
 use Rattle.vhdx_walk.proofs.load.Goals as goal
 
 pub returns-in-Done : goal.returns-in-Done

@@ -9,7 +9,6 @@ use Rattle.vhdx_walk.proofs.Chains.{head-says, on-first, more-readable, first-pl
 use Rattle.vhdx_log.specs.Work.{work}
 use Rattle.vhdx_log.proofs.Decisions.{refused-6}
 use Rattle.vhdx_log.proofs.Answering.{refusal, lies-inside, too_long, applies}
-use borrow.Author.Rules.{rules}
 use Rattle.vhdx_log.proofs.decide.sequence.Goals as goal
 
 pub head-requires : goal.head-requires

@@ -3,7 +3,6 @@ use mathlib.Core.Path.{sym, ◌∙◌}
 use mathlib.Core.List.{[]}
 use Rattle.vhdx_log.specs.Work.{apply_within}
 use Rattle.vhdx_log.proofs.Answering.{refusal, no-log}
-use borrow.Author.Rules.{rules}
 use Rattle.vhdx_log.proofs.decide.without_log.Goals as goal
 
 pub returns-then-is_within : goal.returns-then-is_within

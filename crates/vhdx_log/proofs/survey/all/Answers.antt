@@ -1,13 +1,11 @@
 -- `vhdx_log::survey::all` meets its contract. The loop's invariant: what was found, with what is left, is the whole.
 use mathlib.Core.Path.{◌≡◌, refl, sym, ap, subst, ◌∙◌}
 use mathlib.Core.List.{[]}
-use Prim.Native.Nat.{◌+◌}
 use native.Mathlib.Omega.{arith}
 use lib.ListN.{length}
 use Rattle.extent.specs.declared.Extent.{Extent}
-use Rattle.vhdx_walk.specs.Cursor.{descriptors_left, Placed, Onward}
+use Rattle.vhdx_walk.specs.Cursor.{descriptors_left, Onward}
 use Rattle.vhdx_log.proofs.Surveys.{survey_from, survey-onward, surveyed}
-use borrow.Author.Rules.{rules}
 use Rattle.vhdx_log.proofs.survey.all.Goals as goal
 
 pub loop-found-init : goal.loop-found-init

@@ -1,6 +1,5 @@
 -- `vhdx_replay::sector::data` meets its contract: the stored sector, then its two ends over it.
 use Rattle.vhdx_replay.proofs.DataBytes.{stored}
-use borrow.Author.Rules.{rules}
 use Rattle.vhdx_replay.proofs.sector.data.Goals as goal
 
 pub returns : goal.returns

@@ -2,7 +2,6 @@
 use mathlib.Core.Path.{◌∙◌}
 use Rattle.extent.specs.Extent.{part}
 use Rattle.vhdx_replay.proofs.Writing.{zeros-written, data-held, data-written}
-use borrow.Author.Rules.{rules}
 use Rattle.vhdx_replay.proofs.sector.write.Goals as goal
 
 pub data-out-requires : goal.data-out-requires

@@ -1,9 +1,8 @@
 -- `vhdx_replay::store::bytes` meets its contract. The invariant: the first k bytes are stored, and the buffer is as long as it was.
 use mathlib.Core.Path.{◌≡◌, refl, ◌∙◌}
-use Prim.Native.Nat.{◌≤◌, ◌-◌}
 use native.Mathlib.Omega.{arith}
 use lib.ListN.{length, get_or, length-set}
-use lib.Seq.{paste, paste-zero}
+use lib.Seq.{paste-zero}
 use borrow.Author.Rules.{rules}
 use Rattle.vhdx_replay.proofs.Storing.{paste_more, paste_all}
 use Rattle.vhdx_replay.proofs.store.bytes.Goals as goal

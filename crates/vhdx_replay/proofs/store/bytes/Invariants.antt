@@ -1,11 +1,8 @@
 -- `vhdx_replay::store::bytes` meets its contract. The invariant: the first k bytes are stored, and the buffer is as long as it was.
-use mathlib.Core.Path.{◌≡◌, refl, ◌∙◌}
+use mathlib.Core.Path.{◌≡◌}
 use Prim.Native.Nat.{◌≤◌, ◌-◌}
-use native.Mathlib.Omega.{arith}
-use lib.ListN.{length, get_or, length-set}
-use lib.Seq.{paste, paste-zero}
-use borrow.Author.Rules.{rules}
-use Rattle.vhdx_replay.proofs.Storing.{paste_more, paste_all}
+use lib.ListN.{length}
+use lib.Seq.{paste}
 use Rattle.vhdx_replay.proofs.store.bytes.Given as goal
 
 abbrev pub invariant-loop-k : goal.invariant-loop-k

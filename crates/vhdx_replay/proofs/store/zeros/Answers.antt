@@ -1,9 +1,9 @@
 -- `vhdx_replay::store::zeros` meets its contract. The invariant: the first k zeros are stored, and the buffer is as long as it was.
 use mathlib.Core.Path.{◌≡◌, sym, ◌∙◌}
-use Prim.Native.Nat.{ℕ, ◌≤◌, ◌<◌, ◌-◌}
+use Prim.Native.Nat.{ℕ, ◌<◌, ◌-◌}
 use native.Mathlib.Omega.{arith}
-use lib.ListN.{length, replicate, length-replicate, get_or-replicate, length-set}
-use lib.Seq.{paste, paste-zero}
+use lib.ListN.{replicate, length-replicate, get_or-replicate, length-set}
+use lib.Seq.{paste-zero}
 use borrow.Author.Rules.{rules}
 use Rattle.vhdx_replay.proofs.Storing.{paste_more, paste_all}
 use Rattle.vhdx_replay.proofs.store.zeros.Goals as goal

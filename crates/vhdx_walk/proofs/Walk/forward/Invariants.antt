@@ -1,12 +1,9 @@
 -- `vhdx_walk::Walk::forward` meets its contract: what is left behind k sectors is what is left behind `left` sectors of the present walk.
-use mathlib.Core.Path.{◌≡◌, refl, sym, ◌∙◌, subst}
+use mathlib.Core.Path.{◌≡◌}
 use Prim.Native.Nat.{◌+◌}
 use lib.ListN.{length, drop}
-use Rattle.vhdx_walk.specs.declared.Walk.{Walk}
 use Rattle.vhdx_walk.specs.Cursor.{descriptors_left}
-use Rattle.vhdx_walk.specs.Walk.{sectors_left, Ready, Settled, walk_from, Following}
-use Rattle.vhdx_walk.proofs.Sectors.{from-ready, all-passed, past-run, settled-end, settled-sector, left-from}
-use borrow.Author.Rules.{rules}
+use Rattle.vhdx_walk.specs.Walk.{sectors_left, Ready}
 use Rattle.vhdx_walk.proofs.Walk.forward.Given as goal
 
 abbrev pub invariant-loop-walk : goal.invariant-loop-walk

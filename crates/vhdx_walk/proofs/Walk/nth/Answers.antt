@@ -2,7 +2,6 @@
 use mathlib.Core.Path.{ap, ◌∙◌}
 use mathlib.Core.List.{List}
 use lib.ListN.{get_elem?}
-use borrow.Author.Rules.{rules}
 use Rattle.vhdx_walk.specs.Entries.{Sector}
 use Rattle.vhdx_walk.specs.Walk.{sectors_left}
 use Rattle.vhdx_walk.proofs.Sectors.{nth_drop}

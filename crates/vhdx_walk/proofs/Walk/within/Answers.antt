@@ -2,7 +2,6 @@
 use mathlib.Core.Path.{refl}
 use native.Mathlib.Omega.{arith}
 use Rattle.vhdx_walk.proofs.Sectors.{within-left, within-ready}
-use borrow.Author.Rules.{rules}
 use Rattle.vhdx_walk.proofs.Walk.within.Goals as goal
 
 pub overflow_add-result : goal.overflow_add-result

@@ -1,14 +1,12 @@
 -- `vhdx_walk::entry::head` meets its contract. The loop's invariant: the entries still before it have the same head.
-use mathlib.Core.Path.{◌≡◌, refl, sym, ap, subst, ◌∙◌}
+use mathlib.Core.Path.{refl, sym, ap, subst, ◌∙◌}
 use Prim.Native.Nat.{ℕ, ◌-◌, ◌<◌}
 use native.Mathlib.Omega.{arith}
-use Rattle.vhdx_entry.specs.Ring.{On}
 use Rattle.vhdx_walk.specs.Entries.{head}
 use Rattle.vhdx_walk.specs.Bytes.{entries_from}
 use Rattle.vhdx_walk.specs.Cursor.{AllReadable}
 use Rattle.vhdx_walk.proofs.Moves.{first-readable, rest-readable}
 use Rattle.vhdx_walk.proofs.Chains.{head-onward, head-only}
-use borrow.Author.Rules.{rules}
 use Rattle.vhdx_walk.proofs.entry.head.Goals as goal
 
 pub loop-left-init : goal.loop-left-init

@@ -6,7 +6,6 @@ use Rattle.vhdx_entry.specs.declared.ring.RingPos.{RingPos}
 use Rattle.vhdx_entry.specs.Ring.{ring}
 use Rattle.vhdx_entry.specs.Entry.{entry_length, size, behind}
 use Rattle.vhdx_walk.proofs.Parts.{same_count, size-within, size-read}
-use borrow.Author.Rules.{rules}
 use Rattle.vhdx_walk.proofs.entry.next.Goals as goal
 
 pub advance-requires : goal.advance-requires

@@ -7,7 +7,6 @@ use Rattle.vhdx_entry.specs.Ring.{ring, sector_at, offset_in}
 use Rattle.vhdx_entry.specs.Entry.{descriptor, descriptor_sectors, descriptor_count, file_offset, data_sector}
 use Rattle.vhdx_entry.proofs.Laws.{ring-bytes}
 use Rattle.vhdx_walk.proofs.Parts.{writes-same}
-use borrow.Author.Rules.{rules}
 use Rattle.vhdx_walk.proofs.run.of_data.Goals as goal
 
 pub returns : goal.returns

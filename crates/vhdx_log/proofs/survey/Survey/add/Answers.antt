@@ -4,7 +4,6 @@ use mathlib.Core.Path.{ap, ◌∙◌}
 use Prim.Native.Nat.{max}
 use borrow.Author.Tests.{eq-eqb, ne_eqb}
 use Rattle.vhdx_log.proofs.Surveys.{survey-path}
-use borrow.Author.Rules.{rules}
 use Rattle.vhdx_log.proofs.survey.Survey.add.Goals as goal
 
 pub returns-then-length-eq0 : goal.returns-then-length-eq0

@@ -6,7 +6,6 @@ use native.Mathlib.Omega.{arith}
 use Rattle.vhdx_entry.specs.Ring.{ring}
 use Rattle.vhdx_entry.specs.Entry.{descriptor, descriptor_sectors, descriptor_count, is_data_descriptor, zero_length, file_offset}
 use Rattle.vhdx_walk.proofs.Moves.{stands, descriptor-fits, rank-fits, past-data, past-zeros}
-use borrow.Author.Rules.{rules}
 use Rattle.vhdx_walk.proofs.cursor.Cursor.descriptor.Goals as goal
 
 pub at-d-requires : goal.at-d-requires

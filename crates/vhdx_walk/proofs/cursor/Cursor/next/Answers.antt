@@ -6,7 +6,6 @@ use Rattle.vhdx_entry.specs.Ring.{ring}
 use Rattle.vhdx_entry.specs.Entry.{descriptor_count}
 use Rattle.vhdx_entry.proofs.Laws.{in-first}
 use Rattle.vhdx_walk.proofs.Moves.{on-done, stands, reads as readable, to-entry}
-use borrow.Author.Rules.{rules}
 use Rattle.vhdx_walk.proofs.cursor.Cursor.next.Goals as goal
 
 pub returns-then-left-eq0 : goal.returns-then-left-eq0
