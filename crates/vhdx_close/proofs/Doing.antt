@@ -3,11 +3,11 @@
 use mathlib.Core.Path.{◌≡◌, refl, sym, ap, ap₂, subst, ◌∙◌}
 use mathlib.Core.Bool.{Bool, true, false, cond}
 use mathlib.Core.List.{List, [], ◌∷◌, ◌++◌}
-use mathlib.Core.Logic.{◌⊎◌, inl, inr, ⊎_elim}
+use mathlib.Core.Logic.{inl, inr, ⊎_elim}
 use Prim.Native.Nat.{ℕ, ◌+◌, ◌<◌}
 use native.Mathlib.Omega.{arith}
 use lib.Dec.{eqb, ltb}
-use lib.ListN.{length, take}
+use lib.ListN.{take}
 use borrow.Author.Tests.{ltb-true}
 use Rattle.decision.specs.Refusal.{check}
 use Rattle.field.specs.Fields.{number}
@@ -19,12 +19,12 @@ use Rattle.vhdx_header.specs.Current.{header_at, first_mib, current_header, othe
 use Rattle.vhdx_header.proofs.Laws.{accepted}
 use Rattle.vhdx_header.proofs.Standing.{standing}
 use Rattle.vhdx_walk.specs.Entries.{Sector}
-use Rattle.vhdx_log.specs.Work.{Plan, refused, apply, count}
+use Rattle.vhdx_log.specs.Work.{Plan, refused, apply}
 use Rattle.vhdx_log.specs.Plan.{plan, plan_header}
 use Rattle.vhdx_steps.specs.Buffer.{put}
 use Rattle.vhdx_steps.specs.Steps.{File, grow, run, runs, steps}
 use Rattle.vhdx_steps.specs.Calls.{file}
-use Rattle.vhdx_replay.proofs.Applying.{planned, header, plan-is}
+use Rattle.vhdx_replay.proofs.Applying.{planned, plan-is}
 use Rattle.vhdx_replay.proofs.Done.{done, same-buffer, long, same_start}
 use Rattle.vhdx_close.specs.declared.Job.{Job}
 use Rattle.vhdx_close.specs.declared.Ending.{Ending}

@@ -14,7 +14,6 @@ use Rattle.field.specs.Fields.{starts}
 use Rattle.vhdx_header.specs.Current.{vhdxfile, slot2, within_image}
 use Rattle.vhdx_header.specs.declared.Answer.{Answer}
 use Rattle.vhdx_header.specs.declared.Answer.TheVariants as answer
-use Rattle.vhdx_header.specs.declared.Header.{Header}
 use Rattle.vhdx_entry.specs.declared.ring.RingPos.{RingPos}
 use Rattle.vhdx_sequence.specs.declared.Sequence.{Sequence}
 use Rattle.vhdx_sequence.specs.declared.Found.{Found}
@@ -38,9 +37,7 @@ use Rattle.vhdx_pieces_survey.proofs.Advancing.{survey-advances, survey-starts}
 use Rattle.vhdx_pieces_plan.specs.declared.Context.{Context}
 use Rattle.vhdx_pieces_plan.specs.declared.Phase.{Phase}
 use Rattle.vhdx_pieces_plan.specs.declared.Phase.TheVariants as phase
-use Rattle.vhdx_pieces_plan.specs.declared.Outcome.TheVariants.{Refused}
 use Rattle.vhdx_pieces_plan.specs.declared.Step.{Step}
-use Rattle.vhdx_pieces_plan.specs.declared.Step.TheVariants.{Ended}
 use Rattle.vhdx_pieces_plan.specs.Planning.{sectors_of, judged, toured, sought, scanned, with_log, context_of, answered, headed, step_in, step_of, Bounded, SaneIn, Ordered, Kept, scan_most, survey_most, plan_most, left_in, left_of, PlanAdvances, PlanStarts}
 
 -- as `chosen`, of a test that refuses where it fails

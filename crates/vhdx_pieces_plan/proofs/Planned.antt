@@ -30,7 +30,6 @@ use Rattle.vhdx_walk.specs.Entries.{Descriptor, Entries, head, all_descriptors, 
 use Rattle.vhdx_walk.specs.Bytes.{entries_from}
 use Rattle.vhdx_walk.specs.Cursor.{descriptors_on, AllReadable, Walkable}
 use Rattle.vhdx_walk.proofs.Chains.{walkable, first-descriptors, chain-descriptors}
-use Rattle.vhdx_log.specs.declared.survey.Survey.{Survey}
 use Rattle.vhdx_log.specs.Survey.{capped}
 use Rattle.vhdx_log.specs.Work.{Plan, refused, apply, count, some_lies, apply_within, work}
 use Rattle.vhdx_log.specs.Plan.{log_bytes, extent_of, plan_sequence, plan_log, plan_header, plan}
@@ -55,7 +54,7 @@ use Rattle.vhdx_pieces_plan.specs.declared.Outcome.{Outcome}
 use Rattle.vhdx_pieces_plan.specs.declared.Outcome.TheVariants.{Refused, Apply}
 use Rattle.vhdx_pieces_plan.specs.declared.Step.{Step}
 use Rattle.vhdx_pieces_plan.specs.declared.Step.TheVariants.{Ended}
-use Rattle.vhdx_pieces_plan.specs.Planning.{sectors_of, sector_in, wanted_of, unknown, judged, toured, sought, scanned, context_of, with_header, answered, headed, started, step_of, Plans, stop, next, plan_in, count_of, WalksIn, Decides, PlansAll}
+use Rattle.vhdx_pieces_plan.specs.Planning.{sectors_of, sector_in, unknown, judged, toured, sought, scanned, context_of, with_header, answered, headed, step_of, Plans, stop, next, plan_in, count_of, WalksIn, Decides, PlansAll}
 use Rattle.vhdx_pieces_plan.proofs.Turns.{size_small}
 
 -- ---- from a part's run to the planner's

@@ -21,7 +21,6 @@ use Rattle.vhdx_sequence.specs.Sequence.{active_sequence}
 use Rattle.vhdx_sequence.specs.Scan.{moved, State, state_of, fresh, taken, goes_on}
 use Rattle.vhdx_sequence.proofs.Turn.{Scanned, begun, within, finished, turn-empty, turn-valid, sized-here}
 use Rattle.vhdx_pieces_entry.specs.declared.Progress.{Progress}
-use Rattle.vhdx_pieces_entry.specs.declared.Progress.TheVariants.{Valid, Empty}
 use Rattle.vhdx_pieces_entry.specs.Pass as pass
 use Rattle.vhdx_pieces_entry.proofs.Passing.{reads-entry}
 use Rattle.vhdx_pieces_entry.proofs.Keeping.{kept-first, kept-further}

@@ -24,7 +24,6 @@ use Rattle.vhdx_walk.proofs.Moves.{on-descriptor, on-entry}
 use Rattle.vhdx_walk.proofs.Chains.{chain-descriptors}
 use Rattle.vhdx_log.specs.declared.survey.Survey.{Survey}
 use Rattle.vhdx_log.specs.Survey.{added, capped}
-use Rattle.vhdx_log.specs.Work.{lies}
 use Rattle.vhdx_log.proofs.Lies.{lies_whole}
 use Rattle.vhdx_log.proofs.Surveys.{survey-path, with, survey_from, survey-onward, surveyed}
 use Rattle.vhdx_pieces_entry.specs.Pass.{from_of, places_in}

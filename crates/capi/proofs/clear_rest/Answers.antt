@@ -1,9 +1,6 @@
 -- `capi::clear_rest` meets its contract. The invariant: the slots from i on, cleared, give what is to be given.
-use mathlib.Core.Path.{◌≡◌, refl, sym, ◌∙◌}
-use Prim.Native.Nat.{◌≤◌, ◌-◌}
+use mathlib.Core.Path.{refl, sym, ◌∙◌}
 use native.Mathlib.Omega.{arith}
-use lib.ListN.{replicate}
-use Rattle.vhdx_slots.specs.Slots.{in_slots}
 use Rattle.capi.specs.Answers.{rest_cleared}
 use Rattle.capi.proofs.Slots.{zeros-more, zeros-end}
 use borrow.Author.Rules.{rules}

@@ -2,7 +2,6 @@
 use mathlib.Core.Path.{refl}
 use borrow.Author.Tests.{eq-eqb, ne_eqb}
 use Rattle.vhdx_slots.specs.Slots.{in_slots}
-use borrow.Author.Rules.{rules}
 use Rattle.capi.proofs.put_request.Goals as goal
 
 pub returns-then-request-eq0 : goal.returns-then-request-eq0

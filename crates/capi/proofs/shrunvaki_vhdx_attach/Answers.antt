@@ -3,7 +3,6 @@ use mathlib.Core.Path.{ap, ◌∙◌}
 use Rattle.vhdx.specs.declared.Attached.{Attached}
 use Rattle.capi.specs.Answers.{rest_cleared, attached_in}
 use Rattle.capi.proofs.Slots.{all_slots}
-use borrow.Author.Rules.{rules}
 use Rattle.capi.proofs.shrunvaki_vhdx_attach.Goals as goal
 
 pub returns : goal.returns

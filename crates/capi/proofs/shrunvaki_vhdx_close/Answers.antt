@@ -3,7 +3,6 @@ use mathlib.Core.Path.{ap}
 use Rattle.vhdx_close_steps.specs.declared.Closed.{Closed}
 use Rattle.vhdx_slots.specs.Slots.{in_slots}
 use Rattle.capi.specs.Answers.{closed_in}
-use borrow.Author.Rules.{rules}
 use Rattle.capi.proofs.shrunvaki_vhdx_close.Goals as goal
 
 pub returns : goal.returns

@@ -3,7 +3,6 @@ use mathlib.Core.Path.{ap}
 use Rattle.vhdx_steps.specs.declared.Stepped.{Stepped}
 use Rattle.vhdx_slots.specs.Slots.{in_slots}
 use Rattle.capi.specs.Answers.{stepped_in}
-use borrow.Author.Rules.{rules}
 use Rattle.capi.proofs.shrunvaki_vhdx_close_step.Goals as goal
 
 pub returns : goal.returns

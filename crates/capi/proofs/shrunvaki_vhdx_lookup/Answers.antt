@@ -5,7 +5,6 @@ use Rattle.vhdx_facts.specs.declared.Facts.{Facts}
 use Rattle.vhdx_map.specs.Lookup.{Location, lookup, outcome}
 use Rattle.vhdx_slots.specs.Slots.{in_slots}
 use Rattle.capi.specs.Answers.{figures_in}
-use borrow.Author.Rules.{rules}
 use Rattle.capi.proofs.shrunvaki_vhdx_lookup.Goals as goal
 
 pub returns-in-Refused : goal.returns-in-Refused

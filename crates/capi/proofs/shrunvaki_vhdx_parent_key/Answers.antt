@@ -5,7 +5,6 @@ use Rattle.vhdx_facts.specs.declared.Facts.{Facts}
 use Rattle.vhdx_parent.specs.Key.{key_extent}
 use Rattle.vhdx_slots.specs.Slots.{in_slots}
 use Rattle.capi.specs.Answers.{extent_in}
-use borrow.Author.Rules.{rules}
 use Rattle.capi.proofs.shrunvaki_vhdx_parent_key.Goals as goal
 
 pub returns : goal.returns

@@ -2,7 +2,6 @@
 use mathlib.Core.Path.{ap, ◌∙◌}
 use Rattle.vhdx_pieces_calls.specs.declared.Request.{Request}
 use Rattle.capi.specs.Answers.{request_in, refused_by}
-use borrow.Author.Rules.{rules}
 use Rattle.capi.proofs.shrunvaki_vhdx_pieces_next.Goals as goal
 
 pub returns : goal.returns

@@ -3,7 +3,6 @@ use mathlib.Core.Path.{ap}
 use Rattle.vhdx.specs.declared.Planned.{Planned}
 use Rattle.vhdx_slots.specs.Slots.{in_slots}
 use Rattle.capi.specs.Answers.{planned_in}
-use borrow.Author.Rules.{rules}
 use Rattle.capi.proofs.shrunvaki_vhdx_plan.Goals as goal
 
 pub returns : goal.returns

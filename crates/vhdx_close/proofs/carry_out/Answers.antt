@@ -1,6 +1,5 @@
 -- `vhdx_close::carry_out` meets its contract: the log's work, then the header where there is one to write.
 use Rattle.vhdx_close.proofs.Doing.{closable, done_plain, done-header}
-use borrow.Author.Rules.{rules}
 use Rattle.vhdx_close.proofs.carry_out.Goals as goal
 
 pub write-requires : goal.write-requires

@@ -2,7 +2,6 @@
 use mathlib.Core.Path.{subst}
 use Rattle.vhdx_close.specs.Deciding.{Decided}
 use Rattle.vhdx_close.proofs.Answering.{refused-close, done-answer}
-use borrow.Author.Rules.{rules}
 use Rattle.vhdx_close.proofs.close.Goals as goal
 
 pub carry_out-requires : goal.carry_out-requires

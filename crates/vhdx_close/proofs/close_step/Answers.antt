@@ -4,7 +4,6 @@ use Prim.Native.Nat.{◌<◌}
 use native.Mathlib.Omega.{arith}
 use Rattle.vhdx_close.specs.Deciding.{Decided}
 use Rattle.vhdx_close.proofs.Answering.{refused-step, grown-step, later-step}
-use borrow.Author.Rules.{rules}
 use Rattle.vhdx_close.proofs.close_step.Goals as goal
 
 pub first_steps-requires : goal.first_steps-requires

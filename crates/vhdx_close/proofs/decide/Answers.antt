@@ -1,7 +1,6 @@
 -- `vhdx_close::decide` meets its contract.
 use mathlib.Core.Path.{sym, ◌∙◌}
 use Rattle.vhdx_close.proofs.Doing.{no_header}
-use borrow.Author.Rules.{rules}
 use Rattle.vhdx_close.proofs.decide.Goals as goal
 
 pub decide_with-requires : goal.decide_with-requires

@@ -4,7 +4,6 @@ use Rattle.vhdx_replay.proofs.Applying.{extent-is}
 use Rattle.vhdx_replay.proofs.Applying.{plan-is}
 use Rattle.vhdx_replay.proofs.Done.{plan-refused, work-planned}
 use Rattle.vhdx_close.proofs.Doing.{no-plan, too-great}
-use borrow.Author.Rules.{rules}
 use Rattle.vhdx_close.proofs.decide_with.Goals as goal
 
 pub returns-in-Refused : goal.returns-in-Refused

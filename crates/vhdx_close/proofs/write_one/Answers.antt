@@ -3,7 +3,6 @@ use native.Mathlib.Omega.{arith}
 use Rattle.vhdx_steps.proofs.Sectors.{clash}
 use Rattle.vhdx_close.proofs.Doing.{closable-before}
 use Rattle.vhdx_close.proofs.Answering.{sector-step, no_step, header-step}
-use borrow.Author.Rules.{rules}
 use Rattle.vhdx_close.proofs.write_one.Goals as goal
 
 pub returns-then-i-work : goal.returns-then-i-work

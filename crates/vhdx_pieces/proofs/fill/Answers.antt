@@ -2,7 +2,6 @@
 use mathlib.Core.Path.{sym, ap, ◌∙◌}
 use Rattle.vhdx_pieces.specs.declared.Machine.{Machine}
 use Rattle.vhdx_pieces.specs.Machines.{written_of}
-use borrow.Author.Rules.{rules}
 use Rattle.vhdx_pieces.proofs.fill.Goals as goal
 
 pub returns-in-Writing : goal.returns-in-Writing

@@ -1,7 +1,6 @@
 -- `vhdx_pieces::is_data` meets its contract.
 use mathlib.Core.Path.{sym, ap, ◌∙◌}
 use Rattle.vhdx_pieces.specs.Machines.{is_data_of}
-use borrow.Author.Rules.{rules}
 use Rattle.vhdx_pieces.proofs.is_data.Goals as goal
 
 pub returns-in-Writing : goal.returns-in-Writing

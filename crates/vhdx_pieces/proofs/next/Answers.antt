@@ -5,7 +5,6 @@ use native.Mathlib.Omega.{arith}
 use Rattle.vhdx_pieces_walk.specs.Walking as walking
 use Rattle.vhdx_pieces.specs.declared.Machine.{Machine}
 use Rattle.vhdx_pieces.specs.Machines.{bounds_of, wanted_of, planned, walked, step_in, step_of, Sane}
-use borrow.Author.Rules.{rules}
 use Rattle.vhdx_pieces.proofs.next.Goals as goal
 
 pub next-requires : goal.next-requires

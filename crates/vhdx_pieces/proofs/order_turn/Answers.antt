@@ -6,7 +6,6 @@ use Prim.Native.Nat.{ℕ}
 use Rattle.vhdx_pieces_plan.specs.declared.Order.{Order}
 use Rattle.vhdx_pieces_plan.specs.Planning.{Ordered, OrderFor}
 use Rattle.vhdx_pieces.specs.Machines.{ordered}
-use borrow.Author.Rules.{rules}
 use Rattle.vhdx_pieces.proofs.order_turn.Goals as goal
 
 longer : {n : ℕ} (o : Order) → OrderFor n o → OrderFor o.length o

@@ -2,7 +2,6 @@
 use mathlib.Core.Path.{sym, ap, ◌∙◌, subst}
 use Rattle.vhdx_pieces_plan.specs.Planning.{Kept}
 use Rattle.vhdx_pieces.specs.Machines.{planned}
-use borrow.Author.Rules.{rules}
 use Rattle.vhdx_pieces.proofs.plan_turn.Goals as goal
 
 pub order_turn-requires : goal.order_turn-requires

@@ -1,7 +1,6 @@
 -- `vhdx_pieces::start` meets its contract.
 use mathlib.Core.Path.{ap, ◌∙◌}
 use Rattle.vhdx_pieces.specs.Machines.{planned}
-use borrow.Author.Rules.{rules}
 use Rattle.vhdx_pieces.proofs.start.Goals as goal
 
 pub plan_turn-requires : goal.plan_turn-requires

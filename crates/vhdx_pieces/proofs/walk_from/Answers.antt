@@ -4,7 +4,6 @@ use Prim.Native.Nat.{ℕ}
 use native.Mathlib.Omega.{arith}
 use Rattle.vhdx_pieces_walk.specs.Walking as walking
 use Rattle.vhdx_pieces.specs.Machines.{bounds_of, walked, walk_from}
-use borrow.Author.Rules.{rules}
 use Rattle.vhdx_pieces.proofs.walk_from.Goals as goal
 
 pub start-requires : goal.start-requires

@@ -4,7 +4,6 @@ use borrow.Author.Tests.{eq-eqb, ne_eqb}
 use Rattle.vhdx_pieces_plan.specs.Planning.{sectors_of}
 use Rattle.vhdx_pieces_walk.specs.Walking.{Onward}
 use Rattle.vhdx_pieces.specs.Machines.{bounds_of, walked}
-use borrow.Author.Rules.{rules}
 use Rattle.vhdx_pieces.proofs.walk_turn.Goals as goal
 
 pub write_turn-requires : goal.write_turn-requires

@@ -4,7 +4,6 @@ use native.Mathlib.Omega.{arith}
 use Rattle.extent.specs.declared.Extent.{Extent}
 use Rattle.vhdx_pieces_plan.specs.Planning.{sector_in}
 use Rattle.vhdx_pieces.specs.Machines.{bounds_of, wanted_of, Sane}
-use borrow.Author.Rules.{rules}
 use Rattle.vhdx_pieces.proofs.wanted.Goals as goal
 
 pub wanted-requires : goal.wanted-requires

@@ -1,6 +1,5 @@
 -- `vhdx_pieces::write_turn` meets its contract.
 use borrow.Author.Tests.{lt-ltb, le-ltb}
-use borrow.Author.Rules.{rules}
 use Rattle.vhdx_pieces.proofs.write_turn.Goals as goal
 
 pub returns-then-unwritten-gt0 : goal.returns-then-unwritten-gt0

@@ -6,7 +6,6 @@ use Rattle.extent.specs.declared.Extent.{Extent}
 use Rattle.vhdx_pieces.specs.Machines.{Kept}
 use Rattle.vhdx_pieces_calls.specs.declared.Request.{Request}
 use Rattle.vhdx_pieces_calls.specs.Calls.{request_of, numbers_of}
-use borrow.Author.Rules.{rules}
 use Rattle.vhdx_pieces_calls.proofs.answer.Goals as goal
 
 abbrev request1 : Extent → Request

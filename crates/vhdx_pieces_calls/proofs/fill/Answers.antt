@@ -6,7 +6,6 @@ use Rattle.vhdx_steps.specs.Buffer.{put}
 use Rattle.vhdx_pieces.specs.declared.Turn.{Turn}
 use Rattle.vhdx_pieces.specs.Machines.{written_of}
 use Rattle.vhdx_pieces_calls.specs.Calls.{piece_of}
-use borrow.Author.Rules.{rules}
 use Rattle.vhdx_pieces_calls.proofs.fill.Goals as goal
 
 pub returns-in-Write : goal.returns-in-Write

@@ -4,7 +4,6 @@ use native.Mathlib.Omega.{arith}
 use lib.ListN.{length, take}
 use lib.Seq.{length-take-le}
 use Rattle.vhdx_pieces_sector.proofs.Filled.{put_all}
-use borrow.Author.Rules.{rules}
 use Rattle.vhdx_pieces_calls.proofs.first_sector.Goals as goal
 
 pub slice_bounds-bytes-end-2 : goal.slice_bounds-bytes-end-2

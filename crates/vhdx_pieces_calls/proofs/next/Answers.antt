@@ -4,7 +4,6 @@ use Rattle.vhdx_pieces.specs.declared.Turn.{Turn}
 use Rattle.vhdx_pieces_slots.specs.declared.Loaded.{Loaded}
 use Rattle.vhdx_pieces_slots.specs.Loading.{Sound}
 use Rattle.vhdx_pieces_calls.specs.Calls.{request_of, numbers_of, piece_of, next_request, next_numbers, next_piece}
-use borrow.Author.Rules.{rules}
 use Rattle.vhdx_pieces_calls.proofs.next.Goals as goal
 
 pub turn-turn-requires : goal.turn-turn-requires

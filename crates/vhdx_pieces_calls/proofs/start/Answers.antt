@@ -1,7 +1,6 @@
 -- `vhdx_pieces_calls::start` meets its contract.
 use mathlib.Core.Path.{ap, ◌∙◌}
 use Rattle.vhdx_pieces_calls.specs.Calls.{request_of, numbers_of}
-use borrow.Author.Rules.{rules}
 use Rattle.vhdx_pieces_calls.proofs.start.Goals as goal
 
 pub returns : goal.returns

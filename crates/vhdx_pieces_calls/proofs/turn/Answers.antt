@@ -1,11 +1,10 @@
 -- `vhdx_pieces_calls::turn` meets its contract.
 use mathlib.Core.Path.{sym, ap, ◌∙◌}
 use native.Mathlib.Omega.{arith}
-use lib.ListN.{length, take}
+use lib.ListN.{take}
 use lib.Seq.{length-take-le}
 use Rattle.extent.specs.declared.Extent.{Extent}
 use Rattle.vhdx_pieces.specs.Machines.{step_of}
-use borrow.Author.Rules.{rules}
 use Rattle.vhdx_pieces_calls.proofs.turn.Goals as goal
 
 pub slice_bounds-next-end : goal.slice_bounds-next-end

@@ -1,5 +1,4 @@
 -- `vhdx_pieces_entry::begin` meets its contract.
-use borrow.Author.Rules.{rules}
 use Rattle.vhdx_pieces_entry.proofs.begin.Goals as goal
 
 pub returns : goal.returns

@@ -2,7 +2,6 @@
 use borrow.Author.Tests.{eq-eqb, ne_eqb}
 use Rattle.vhdx_pieces_entry.specs.Pass.{closed}
 use mathlib.Core.Path.{sym}
-use borrow.Author.Rules.{rules}
 use Rattle.vhdx_pieces_entry.proofs.closed.Goals as goal
 
 pub returns-then-x-finish : goal.returns-then-x-finish

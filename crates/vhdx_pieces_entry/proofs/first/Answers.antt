@@ -3,7 +3,6 @@ use mathlib.Core.Path.{◌∙◌}
 use Rattle.vhdx_pieces_entry.specs.Pass.{Kept}
 use Rattle.vhdx_pieces_entry.proofs.Laws.{also}
 use Rattle.vhdx_pieces_entry.proofs.Keeping.{first_taken, first-left, first-sane, kept-first}
-use borrow.Author.Rules.{rules}
 use Rattle.vhdx_pieces_entry.proofs.first.Goals as goal
 
 pub on_front-requires : goal.on_front-requires

@@ -4,7 +4,6 @@ use borrow.Author.Tests.{lt-ltb, le-ltb}
 use Rattle.vhdx_pieces_entry.specs.Pass.{Kept}
 use Rattle.vhdx_pieces_entry.proofs.Laws.{also}
 use Rattle.vhdx_pieces_entry.proofs.Keeping.{kept-further, on-front-further, on-data-further}
-use borrow.Author.Rules.{rules}
 use Rattle.vhdx_pieces_entry.proofs.further.Goals as goal
 
 pub returns-then-x-sectors : goal.returns-then-x-sectors

@@ -3,7 +3,6 @@ use mathlib.Core.Path.{sym, ◌∙◌, subst}
 use native.Mathlib.Omega.{arith}
 use Rattle.vhdx_pieces_entry.specs.Pass.{on_data, Sized}
 use Rattle.vhdx_pieces_entry.proofs.Keeping.{past-sized}
-use borrow.Author.Rules.{rules}
 use Rattle.vhdx_pieces_entry.proofs.on_data.Goals as goal
 
 pub settled-requires : goal.settled-requires

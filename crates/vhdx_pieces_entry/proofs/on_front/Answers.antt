@@ -3,7 +3,6 @@ use mathlib.Core.Path.{sym, ◌∙◌, subst}
 use native.Mathlib.Omega.{arith}
 use Rattle.vhdx_pieces_entry.specs.Pass.{on_front, Sized}
 use Rattle.vhdx_pieces_entry.proofs.Keeping.{past-sized, fits-here, told, broken, whole}
-use borrow.Author.Rules.{rules}
 use Rattle.vhdx_pieces_entry.proofs.on_front.Goals as goal
 
 pub descriptors-requires : goal.descriptors-requires

@@ -1,5 +1,4 @@
 -- `vhdx_pieces_entry::past` meets its contract.
-use borrow.Author.Rules.{rules}
 use Rattle.vhdx_pieces_entry.proofs.past.Goals as goal
 
 pub returns : goal.returns

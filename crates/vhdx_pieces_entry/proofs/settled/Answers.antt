@@ -2,7 +2,6 @@
 use borrow.Author.Tests.{lt-ltb, le-ltb}
 use mathlib.Core.Path.{sym}
 use Rattle.vhdx_pieces_entry.specs.Pass.{settled}
-use borrow.Author.Rules.{rules}
 use Rattle.vhdx_pieces_entry.proofs.settled.Goals as goal
 
 pub returns-then-x-front : goal.returns-then-x-front

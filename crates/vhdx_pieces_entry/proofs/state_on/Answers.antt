@@ -1,6 +1,5 @@
 -- `vhdx_pieces_entry::state_on` meets its contract.
 use borrow.Author.Tests.{eq-eqb, ne_eqb}
-use borrow.Author.Rules.{rules}
 use Rattle.vhdx_pieces_entry.proofs.state_on.Goals as goal
 
 pub returns-then-k-eq0 : goal.returns-then-k-eq0

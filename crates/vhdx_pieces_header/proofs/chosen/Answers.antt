@@ -2,7 +2,6 @@
 use mathlib.Core.Path.{sym, ◌∙◌, ap}
 use Rattle.vhdx_header.specs.declared.choice.Slot.{Slot}
 use Rattle.vhdx_pieces_header.specs.Finding.{chosen_by}
-use borrow.Author.Rules.{rules}
 use Rattle.vhdx_pieces_header.proofs.chosen.Goals as goal
 
 pub returns-in-Neither : goal.returns-in-Neither

@@ -1,6 +1,5 @@
 -- `vhdx_pieces_header::identified` meets its contract.
 use mathlib.Core.Path.{sym, ◌∙◌}
-use borrow.Author.Rules.{rules}
 use Rattle.vhdx_pieces_header.proofs.identified.Goals as goal
 
 pub returns-then-bytes_are : goal.returns-then-bytes_are

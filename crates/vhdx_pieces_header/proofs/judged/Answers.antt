@@ -1,5 +1,4 @@
 -- `vhdx_pieces_header::judged` meets its contract.
-use borrow.Author.Rules.{rules}
 use Rattle.vhdx_pieces_header.proofs.judged.Goals as goal
 
 pub returns-then-c : goal.returns-then-c

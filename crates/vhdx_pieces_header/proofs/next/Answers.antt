@@ -1,7 +1,6 @@
 -- `vhdx_pieces_header::next` meets its contract.
 use mathlib.Core.Path.{◌∙◌, ap}
 use Rattle.vhdx_pieces_header.specs.Finding.{size_of, step_of}
-use borrow.Author.Rules.{rules}
 use Rattle.vhdx_pieces_header.proofs.next.Goals as goal
 
 pub identified-requires : goal.identified-requires

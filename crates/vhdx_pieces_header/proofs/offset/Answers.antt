@@ -1,7 +1,6 @@
 -- `vhdx_pieces_header::offset` meets its contract.
 use lib.Dec.{lit≤}
 use mathlib.Core.Path.{refl}
-use borrow.Author.Rules.{rules}
 use Rattle.vhdx_pieces_header.proofs.offset.Goals as goal
 
 pub returns-in-Identifier : goal.returns-in-Identifier

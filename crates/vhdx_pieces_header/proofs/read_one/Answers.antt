@@ -1,5 +1,4 @@
 -- `vhdx_pieces_header::read_one` meets its contract.
-use borrow.Author.Rules.{rules}
 use Rattle.vhdx_pieces_header.proofs.read_one.Goals as goal
 
 pub returns : goal.returns

@@ -1,7 +1,6 @@
 -- `vhdx_pieces_plan::header_turn` meets its contract.
 use mathlib.Core.Path.{sym, ap, ◌∙◌}
 use Rattle.vhdx_pieces_plan.specs.Planning.{headed}
-use borrow.Author.Rules.{rules}
 use Rattle.vhdx_pieces_plan.proofs.header_turn.Goals as goal
 
 pub returns-in-Read : goal.returns-in-Read

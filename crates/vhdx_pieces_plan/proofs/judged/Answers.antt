@@ -4,7 +4,6 @@ use Prim.Native.Nat.{max}
 use native.Mathlib.Omega.{arith}
 use Rattle.vhdx_pieces_plan.proofs.Turns.{is-6, is-7, is-8, is-order}
 use Prim.Native.Nat.{◌≤◌}
-use borrow.Author.Rules.{rules}
 use Rattle.vhdx_pieces_plan.proofs.judged.Goals as goal
 
 pub returns-then-context-report : goal.returns-then-context-report

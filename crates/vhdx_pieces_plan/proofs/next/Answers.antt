@@ -4,7 +4,6 @@ use Rattle.vhdx_pieces_entry.proofs.Laws.{also}
 use Rattle.vhdx_pieces_plan.specs.declared.Phase.{Phase}
 use Rattle.vhdx_pieces_plan.specs.Planning.{wanted_in, SaneIn, Kept, headed, scanned, toured, step_in, step_of}
 use Rattle.vhdx_pieces_plan.proofs.Advancing.{plan-advances}
-use borrow.Author.Rules.{rules}
 use Rattle.vhdx_pieces_plan.proofs.next.Goals as goal
 
 pub next-requires : goal.next-requires

@@ -1,7 +1,6 @@
 -- `vhdx_pieces_plan::scan_turn` meets its contract.
 use mathlib.Core.Path.{sym, ap, ◌∙◌}
 use Rattle.vhdx_pieces_plan.specs.Planning.{scanned}
-use borrow.Author.Rules.{rules}
 use Rattle.vhdx_pieces_plan.proofs.scan_turn.Goals as goal
 
 pub returns-in-Sector : goal.returns-in-Sector

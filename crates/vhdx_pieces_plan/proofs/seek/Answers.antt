@@ -10,12 +10,10 @@ use Rattle.vhdx_sequence.specs.declared.Sequence.{Sequence}
 use Rattle.vhdx_pieces_survey.specs.declared.Step as survey
 use Rattle.vhdx_pieces_survey.specs.Touring as touring
 use Rattle.vhdx_pieces_plan.specs.declared.Context.{Context}
-use Rattle.vhdx_pieces_plan.specs.declared.Step.{Step}
 use Rattle.vhdx_pieces_plan.specs.declared.Step.TheVariants.{Ended}
 use Rattle.vhdx_pieces_plan.specs.declared.Outcome.TheVariants.{Refused}
 use Rattle.vhdx_sequence.specs.declared.Found.TheVariants as found
 use Rattle.vhdx_pieces_plan.specs.Planning.{sectors_of, sought, toured}
-use borrow.Author.Rules.{rules}
 use Rattle.vhdx_pieces_plan.proofs.seek.Goals as goal
 
 both : (q : Sequence) (n : ℕ) → (ltb q.start n && ltb q.more n) ≡ true → (q.start < n) × (q.more < n)

@@ -4,7 +4,6 @@ use native.Mathlib.Omega.{arith}
 use Rattle.vhdx_pieces_entry.proofs.Laws.{also}
 use Rattle.vhdx_pieces_plan.specs.Planning.{headed, Kept}
 use Rattle.vhdx_pieces_plan.proofs.Advancing.{plan-starts}
-use borrow.Author.Rules.{rules}
 use Rattle.vhdx_pieces_plan.proofs.start.Goals as goal
 
 pub returns : goal.returns

@@ -3,7 +3,6 @@ use mathlib.Core.Path.{sym, ap, ◌∙◌}
 use Rattle.vhdx_pieces_plan.specs.declared.Step.{Step}
 use Rattle.vhdx_pieces_plan.specs.declared.Step.TheVariants.{Ended}
 use Rattle.vhdx_pieces_plan.specs.Planning.{toured}
-use borrow.Author.Rules.{rules}
 use Rattle.vhdx_pieces_plan.proofs.survey_turn.Goals as goal
 
 pub judged-requires : goal.judged-requires

@@ -5,7 +5,6 @@ use native.Mathlib.Omega.{arith}
 use Rattle.extent.specs.declared.Extent.{Extent}
 use Rattle.vhdx_pieces_plan.specs.Planning.{sector_in, wanted_in, SaneIn}
 use Rattle.vhdx_pieces_plan.proofs.Turns.{size_small}
-use borrow.Author.Rules.{rules}
 use Rattle.vhdx_pieces_plan.proofs.wanted.Goals as goal
 
 extent-path : {a a' b b' : ℕ} → a ≡ a' → b ≡ b' → ◌≡◌ {A = Extent} (record { offset = a; length = b }) (record { offset = a'; length = b' })

@@ -1,7 +1,6 @@
 -- `vhdx_pieces_plan::with_answer` meets its contract.
 use mathlib.Core.Path.{sym, ap, ◌∙◌}
 use Rattle.vhdx_pieces_plan.specs.Planning.{answered}
-use borrow.Author.Rules.{rules}
 use Rattle.vhdx_pieces_plan.proofs.with_answer.Goals as goal
 
 pub returns-in-Refused : goal.returns-in-Refused

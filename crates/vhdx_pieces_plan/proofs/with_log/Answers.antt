@@ -5,7 +5,6 @@ use native.Mathlib.Omega.{arith}
 use Rattle.vhdx_sequence.specs.Scan.{fresh}
 use Rattle.vhdx_pieces_scan.specs.Scanning as scanning
 use Rattle.vhdx_pieces_plan.specs.Planning.{scanned}
-use borrow.Author.Rules.{rules}
 use Rattle.vhdx_pieces_plan.proofs.with_log.Goals as goal
 
 pub returns-then-is_within : goal.returns-then-is_within

@@ -1,5 +1,4 @@
 -- `vhdx_pieces_sanity::is_on` meets its contract.
-use borrow.Author.Rules.{rules}
 use Rattle.vhdx_pieces_sanity.proofs.is_on.Goals as goal
 
 pub returns : goal.returns

@@ -1,6 +1,5 @@
 -- `vhdx_pieces_sanity::is_orderly` meets its contract.
 use Rattle.vhdx_pieces_sanity.specs.Sanity.{orderly}
-use borrow.Author.Rules.{rules}
 use Rattle.vhdx_pieces_sanity.proofs.is_orderly.Goals as goal
 
 pub returns : goal.returns

@@ -1,6 +1,5 @@
 -- `vhdx_pieces_sanity::is_sane` meets its contract.
 use Rattle.vhdx_pieces_sanity.specs.Sanity.{sane}
-use borrow.Author.Rules.{rules}
 use Rattle.vhdx_pieces_sanity.proofs.is_sane.Goals as goal
 
 pub returns-in-Planning : goal.returns-in-Planning

@@ -6,7 +6,6 @@ use Rattle.vhdx_pieces_entry.proofs.Laws.{also}
 use Rattle.vhdx_pieces_scan.specs.declared.Stage.{Stage}
 use Rattle.vhdx_pieces_scan.specs.Scanning.{Staged, Onward, progressed, step_in, step_of}
 use Rattle.vhdx_pieces_scan.proofs.Advancing.{scan-advances}
-use borrow.Author.Rules.{rules}
 use Rattle.vhdx_pieces_scan.proofs.next.Goals as goal
 
 pub first-requires : goal.first-requires

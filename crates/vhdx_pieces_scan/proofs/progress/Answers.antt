@@ -4,7 +4,6 @@ use native.Mathlib.Omega.{arith}
 use Rattle.vhdx_sequence.specs.Scan.{state_of}
 use Rattle.vhdx_pieces_scan.specs.Scanning.{progressed}
 use Rattle.vhdx_pieces_scan.proofs.Turns.{on-ring, asked-moved, resumed-at}
-use borrow.Author.Rules.{rules}
 use Rattle.vhdx_pieces_scan.proofs.progress.Goals as goal
 
 pub at-requires : goal.at-requires

@@ -3,7 +3,6 @@ use mathlib.Core.Path.{sym, ◌∙◌}
 use native.Mathlib.Omega.{arith}
 use Rattle.vhdx_sequence.specs.Scan.{state_of}
 use Rattle.vhdx_pieces_scan.proofs.Turns.{goes, laps-done, stays, ended_is}
-use borrow.Author.Rules.{rules}
 use Rattle.vhdx_pieces_scan.proofs.resume.Goals as goal
 
 pub at-requires : goal.at-requires

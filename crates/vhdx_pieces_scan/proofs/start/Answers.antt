@@ -3,7 +3,6 @@ use Rattle.vhdx_pieces_entry.proofs.Laws.{also}
 use Rattle.vhdx_pieces_scan.specs.Scanning.{Onward}
 use Rattle.vhdx_pieces_scan.proofs.Turns.{asked-fresh, resumed-fresh}
 use Rattle.vhdx_pieces_scan.proofs.Advancing.{scan-starts}
-use borrow.Author.Rules.{rules}
 use Rattle.vhdx_pieces_scan.proofs.start.Goals as goal
 
 pub resume-requires : goal.resume-requires

@@ -4,7 +4,6 @@ use native.Mathlib.Omega.{arith}
 use Rattle.vhdx_pieces_scan.specs.Scanning.{Staged, wanted_in}
 use Rattle.vhdx_pieces_scan.proofs.Turns.{on-ring}
 use Rattle.vhdx_entry.specs.declared.ring.RingPos.{RingPos}
-use borrow.Author.Rules.{rules}
 use Rattle.vhdx_pieces_scan.proofs.wanted.Goals as goal
 
 pub advance-requires : goal.advance-requires

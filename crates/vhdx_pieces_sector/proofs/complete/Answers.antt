@@ -4,7 +4,6 @@ use Prim.Native.Nat.{ℕ}
 use mathlib.Core.List.{List}
 use Rattle.vhdx_steps.specs.Buffer.{put}
 use Rattle.vhdx_pieces_sector.proofs.Filled.{completed}
-use borrow.Author.Rules.{rules}
 use Rattle.vhdx_pieces_sector.proofs.complete.Goals as goal
 
 pub returns : goal.returns

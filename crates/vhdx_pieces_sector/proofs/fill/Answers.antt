@@ -3,7 +3,6 @@ use mathlib.Core.Path.{sym, ap, ◌∙◌}
 use Rattle.vhdx_pieces_walk.specs.declared.Stage.{Stage}
 use Rattle.vhdx_pieces_walk.specs.Walking.{written_in}
 use Rattle.vhdx_pieces_sector.proofs.Filled.{zeros-filled}
-use borrow.Author.Rules.{rules}
 use Rattle.vhdx_pieces_sector.proofs.fill.Goals as goal
 
 pub returns-in-Sector : goal.returns-in-Sector

@@ -1,11 +1,6 @@
 -- `vhdx_pieces_slots::are_same` meets its contract.
-use mathlib.Core.Path.{◌≡◌, sym}
-use mathlib.Core.Bool.{Bool, true}
-use mathlib.Core.List.{List}
-use Prim.Native.Nat.{ℕ, ◌-◌, ◌≤◌}
+use mathlib.Core.Path.{sym}
 use native.Mathlib.Omega.{arith}
-use lib.Dec.{eqb}
-use lib.ListN.{get_or}
 use borrow.Author.Tests.{eq-eqb, ne_eqb}
 use Rattle.decision.specs.Bounded.{every}
 use Rattle.decision.proofs.Laws.{every_more, every-end, every-not}

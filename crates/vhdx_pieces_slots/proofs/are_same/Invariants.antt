@@ -1,16 +1,11 @@
 -- `vhdx_pieces_slots::are_same` meets its contract.
-use mathlib.Core.Path.{◌≡◌, sym}
+use mathlib.Core.Path.{◌≡◌}
 use mathlib.Core.Bool.{Bool, true}
 use mathlib.Core.List.{List}
 use Prim.Native.Nat.{ℕ, ◌-◌, ◌≤◌}
-use native.Mathlib.Omega.{arith}
 use lib.Dec.{eqb}
 use lib.ListN.{get_or}
-use borrow.Author.Tests.{eq-eqb, ne_eqb}
 use Rattle.decision.specs.Bounded.{every}
-use Rattle.decision.proofs.Laws.{every_more, every-end, every-not}
-use Rattle.vhdx_pieces_slots.specs.Loading.{same}
-use borrow.Author.Rules.{rules}
 use Rattle.vhdx_pieces_slots.proofs.are_same.Given as goal
 
 abbrev pub agree : List ℕ → List ℕ → ℕ → Bool

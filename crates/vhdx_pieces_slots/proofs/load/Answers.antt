@@ -3,7 +3,6 @@ use mathlib.Core.Path.{sym, ◌∙◌}
 use mathlib.Core.Bool.{and-eq-true_iff}
 use Rattle.vhdx_pieces_slots.specs.Loading.{known, loaded}
 use Rattle.vhdx_pieces_sanity.proofs.Decided.{decided}
-use borrow.Author.Rules.{rules}
 use Rattle.vhdx_pieces_slots.proofs.load.Goals as goal
 
 pub returns-then-is_sane-are_same : goal.returns-then-is_sane-are_same

@@ -1,7 +1,6 @@
 -- `vhdx_pieces_slots::save` meets its contract.
 use Rattle.vhdx_slots.specs.Slots.{in_slots}
 use Rattle.vhdx_pieces_slots.specs.Slots.{numbers}
-use borrow.Author.Rules.{rules}
 use Rattle.vhdx_pieces_slots.proofs.save.Goals as goal
 
 pub returns-in-Planning : goal.returns-in-Planning

@@ -3,7 +3,6 @@ use mathlib.Core.Path.{◌∙◌, ap₂}
 use Prim.Native.Nat.{ℕ}
 use Rattle.vhdx_log.specs.Survey.{added}
 use Rattle.vhdx_pieces_survey.specs.Touring.{added_by}
-use borrow.Author.Rules.{rules}
 use Rattle.vhdx_pieces_survey.proofs.add.Goals as goal
 
 pub returns : goal.returns

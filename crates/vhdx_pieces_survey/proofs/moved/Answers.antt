@@ -1,7 +1,6 @@
 -- `vhdx_pieces_survey::moved` meets its contract.
 use borrow.Author.Tests.{lt-ltb, le-ltb}
 use Rattle.vhdx_pieces_survey.specs.Touring.{moved_on}
-use borrow.Author.Rules.{rules}
 use Rattle.vhdx_pieces_survey.proofs.moved.Goals as goal
 
 pub returns-then-t-m : goal.returns-then-t-m

@@ -11,7 +11,6 @@ use Rattle.vhdx_pieces_survey.specs.declared.Tour.{Tour}
 use Rattle.vhdx_pieces_survey.specs.Touring.{fits, Opened, Onward}
 use Rattle.vhdx_pieces_survey.proofs.Turns.{inside-turn, header-turn, broken-turn}
 use Rattle.vhdx_pieces_survey.proofs.Advancing.{opened-is, survey-advances}
-use borrow.Author.Rules.{rules}
 use Rattle.vhdx_pieces_survey.proofs.next.Goals as goal
 
 tested : (o : Tour) {f : ℕ} (b : Bool) → f ≡ descriptor_sectors o.count → (leb f o.size && leb o.size o.pos.len) ≡ b → fits o ≡ b

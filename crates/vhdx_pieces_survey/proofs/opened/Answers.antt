@@ -1,5 +1,4 @@
 -- `vhdx_pieces_survey::opened` meets its contract.
-use borrow.Author.Rules.{rules}
 use Rattle.vhdx_pieces_survey.proofs.opened.Goals as goal
 
 pub returns : goal.returns

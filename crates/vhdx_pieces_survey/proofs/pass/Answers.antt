@@ -3,7 +3,6 @@ use mathlib.Core.Path.{ap₂, ◌∙◌}
 use native.Mathlib.Omega.{arith}
 use Rattle.vhdx_pieces_survey.specs.Touring.{survey_in, moved_on, passed}
 use Rattle.vhdx_pieces_survey.proofs.Turns.{fits-here}
-use borrow.Author.Rules.{rules}
 use Rattle.vhdx_pieces_survey.proofs.pass.Goals as goal
 
 pub survey_in-requires : goal.survey_in-requires

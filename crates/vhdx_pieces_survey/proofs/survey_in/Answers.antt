@@ -1,13 +1,10 @@
 -- `vhdx_pieces_survey::survey_in` meets its contract.
 use mathlib.Core.Path.{◌≡◌, refl, sym, ap, ◌∙◌}
-use Prim.Native.Nat.{◌+◌, ◌-◌, ◌*◌, ◌≤◌}
 use native.Mathlib.Omega.{arith}
-use lib.ListN.{length}
 use Rattle.vhdx_pieces_entry.specs.Sector.{descriptor_in}
 use Rattle.vhdx_pieces_survey.specs.Touring.{added_by, survey_in}
 use Rattle.vhdx_pieces_survey.proofs.Turns.{survey-more}
 use mathlib.Core.Path.{ap₂}
-use borrow.Author.Rules.{rules}
 use Rattle.vhdx_pieces_survey.proofs.survey_in.Goals as goal
 
 pub loop-i-init : goal.loop-i-init

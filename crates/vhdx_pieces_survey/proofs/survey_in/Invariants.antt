@@ -1,13 +1,8 @@
 -- `vhdx_pieces_survey::survey_in` meets its contract.
-use mathlib.Core.Path.{◌≡◌, refl, sym, ap, ◌∙◌}
+use mathlib.Core.Path.{◌≡◌}
 use Prim.Native.Nat.{◌+◌, ◌-◌, ◌*◌, ◌≤◌}
-use native.Mathlib.Omega.{arith}
 use lib.ListN.{length}
-use Rattle.vhdx_pieces_entry.specs.Sector.{descriptor_in}
-use Rattle.vhdx_pieces_survey.specs.Touring.{added_by, survey_in}
-use Rattle.vhdx_pieces_survey.proofs.Turns.{survey-more}
-use mathlib.Core.Path.{ap₂}
-use borrow.Author.Rules.{rules}
+use Rattle.vhdx_pieces_survey.specs.Touring.{survey_in}
 use Rattle.vhdx_pieces_survey.proofs.survey_in.Given as goal
 
 abbrev pub invariant-loop-i : goal.invariant-loop-i

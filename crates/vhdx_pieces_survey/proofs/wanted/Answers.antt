@@ -1,7 +1,6 @@
 -- `vhdx_pieces_survey::wanted` meets its contract.
 use mathlib.Core.Path.{ap}
 use Rattle.vhdx_entry.specs.declared.ring.RingPos.{RingPos}
-use borrow.Author.Rules.{rules}
 use Rattle.vhdx_pieces_survey.proofs.wanted.Goals as goal
 
 pub returns : goal.returns

@@ -1,15 +1,13 @@
 -- `vhdx_pieces_walk::idle` meets its contract.
 use mathlib.Core.Path.{◌≡◌, sym, ap, ◌∙◌}
-use Prim.Native.Nat.{◌+◌, ◌-◌, ◌*◌, ◌≤◌}
+use Prim.Native.Nat.{◌+◌, ◌-◌}
 use native.Mathlib.Omega.{arith}
-use lib.ListN.{length}
 use lib.Dec.{eqb}
 use borrow.Author.Tests.{eq-eqb, ne_eqb}
 use Rattle.vhdx_pieces_entry.specs.Sector.{descriptor_in, length_in}
 use Rattle.vhdx_pieces_walk.specs.Walking.{idle_from}
 use Rattle.vhdx_pieces_walk.proofs.Turns.{idle-end, idle-stop, idle-more}
 use mathlib.Core.Bool.{false, true}
-use borrow.Author.Rules.{rules}
 use Rattle.vhdx_pieces_walk.proofs.idle.Goals as goal
 
 pub loop-i-init : goal.loop-i-init

@@ -1,5 +1,4 @@
 -- `vhdx_pieces_walk::is_allowed` meets its contract.
-use borrow.Author.Rules.{rules}
 use Rattle.vhdx_pieces_walk.proofs.is_allowed.Goals as goal
 
 pub returns : goal.returns

@@ -5,7 +5,6 @@ use Rattle.vhdx_pieces_walk.specs.declared.Walker.{Walker}
 use Rattle.vhdx_pieces_walk.specs.Walking.{Opened}
 use Rattle.vhdx_pieces_walk.proofs.Turns.{opened-past, looked-met, looked-past, here-fits}
 use Prim.Native.Nat.{◌+◌}
-use borrow.Author.Rules.{rules}
 use Rattle.vhdx_pieces_walk.proofs.look.Goals as goal
 
 pub overflow_mul-from : goal.overflow_mul-from

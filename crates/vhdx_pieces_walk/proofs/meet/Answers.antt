@@ -6,7 +6,6 @@ use borrow.Author.Tests.{lt-ltb, le-ltb}
 use Rattle.vhdx_entry.specs.Entry.{descriptor_sectors}
 use Rattle.vhdx_pieces_walk.specs.Walking.{allowed}
 use Rattle.vhdx_pieces_walk.proofs.Turns.{met-nothing, met-zeros, met-data, met-short}
-use borrow.Author.Rules.{rules}
 use Rattle.vhdx_pieces_walk.proofs.meet.Goals as goal
 
 pub overflow_add-sectors : goal.overflow_add-sectors

@@ -13,7 +13,6 @@ use Rattle.vhdx_pieces_walk.specs.declared.Step.TheVariants.{Write}
 use Rattle.vhdx_pieces_walk.specs.Walking.{fits, step_in, step_of, ReadingIn, SaneReading, Onward}
 use Rattle.vhdx_pieces_walk.proofs.Turns.{opened-is, header-turn, broken-turn}
 use Rattle.vhdx_pieces_walk.proofs.Advancing.{walk-advances}
-use borrow.Author.Rules.{rules}
 use Rattle.vhdx_pieces_walk.proofs.next.Goals as goal
 
 tested : (o : Walker) {f : ℕ} (b : Bool) → f ≡ descriptor_sectors o.count → (leb f o.size && leb o.size o.pos.len) ≡ b → fits o ≡ b

@@ -1,5 +1,4 @@
 -- `vhdx_pieces_walk::opened` meets its contract.
-use borrow.Author.Rules.{rules}
 use Rattle.vhdx_pieces_walk.proofs.opened.Goals as goal
 
 pub returns : goal.returns

@@ -1,7 +1,6 @@
 -- `vhdx_pieces_walk::resume` meets its contract.
 use borrow.Author.Tests.{lt-ltb, le-ltb}
 use Rattle.vhdx_pieces_walk.specs.Walking.{resumed}
-use borrow.Author.Rules.{rules}
 use Rattle.vhdx_pieces_walk.proofs.resume.Goals as goal
 
 pub returns-then-w : goal.returns-then-w

@@ -5,7 +5,6 @@ use native.Mathlib.Omega.{arith}
 use Rattle.vhdx_entry.specs.declared.ring.RingPos.{RingPos}
 use Rattle.vhdx_entry.specs.Ring.{advanced}
 use Rattle.vhdx_pieces_walk.specs.Walking.{ReadingIn, wanted_in}
-use borrow.Author.Rules.{rules}
 use Rattle.vhdx_pieces_walk.proofs.wanted.Goals as goal
 
 pub overflow_mul-w : goal.overflow_mul-w

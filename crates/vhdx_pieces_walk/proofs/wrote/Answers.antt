@@ -9,7 +9,6 @@ use Rattle.vhdx_pieces_walk.specs.declared.Walker.{Walker}
 use Rattle.vhdx_pieces_walk.specs.Walking.{wrote_in, wrote_of, WritingIn, SaneWriting, Onward}
 use Rattle.vhdx_pieces_walk.proofs.Allowed.{allowed-is}
 use Rattle.vhdx_pieces_walk.proofs.Advancing.{walk-advances}
-use borrow.Author.Rules.{rules}
 use Rattle.vhdx_pieces_walk.proofs.wrote.Goals as goal
 
 onward : (w : Walker) {r : Step} → r ≡ wrote_of w → (r ≡ wrote_of w) × ((b : Bounds) → SaneWriting b w → Onward b w.pos.len r)

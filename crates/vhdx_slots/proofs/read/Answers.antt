@@ -1,7 +1,6 @@
 -- `vhdx_slots::read` meets its contract: it reads the slots that the definition names.
 use mathlib.Core.Path.{refl}
 use Rattle.vhdx_slots.specs.Slots.{facts_from}
-use borrow.Author.Rules.{rules}
 use Rattle.vhdx_slots.proofs.read.Goals as goal
 
 pub returns : goal.returns

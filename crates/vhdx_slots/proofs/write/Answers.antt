@@ -1,6 +1,5 @@
 -- `vhdx_slots::write` meets its contract: it writes the slots that the definition names.
 use Rattle.vhdx_slots.specs.Slots.{in_slots, numbers}
-use borrow.Author.Rules.{rules}
 use Rattle.vhdx_slots.proofs.write.Goals as goal
 
 pub returns : goal.returns

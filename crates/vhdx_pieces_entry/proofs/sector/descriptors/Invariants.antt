@@ -1,18 +1,12 @@
 -- The first i keep their rule, and are counted. Assumes nothing.
-use mathlib.Core.Path.{◌≡◌, sym, ap, ◌∙◌}
-use mathlib.Core.Bool.{Bool, true, false, cond}
+use mathlib.Core.Path.{◌≡◌}
+use mathlib.Core.Bool.{Bool, true}
 use mathlib.Core.List.{List}
-use mathlib.Core.Option.{Option, some}
 use Prim.Native.Nat.{ℕ, ◌+◌, ◌-◌, ◌*◌, ◌≤◌}
-use native.Mathlib.Omega.{arith}
-use native.Mathlib.Numerals.{add-one}
 use lib.ListN.{length}
-use borrow.Author.Tests.{not-true, not-false}
-use Rattle.decision.specs.Bounded.{every, only_if}
-use Rattle.decision.proofs.Laws.{every_more, every-not}
-use Rattle.vhdx_entry.specs.Entry.{descriptor_rule, is_data_descriptor}
-use Rattle.vhdx_pieces_entry.specs.Sector.{descriptor_in, passes, data_in}
-use borrow.Author.Rules.{rules}
+use Rattle.decision.specs.Bounded.{every}
+use Rattle.vhdx_entry.specs.Entry.{descriptor_rule}
+use Rattle.vhdx_pieces_entry.specs.Sector.{descriptor_in, data_in}
 use Rattle.vhdx_pieces_entry.proofs.sector.descriptors.Given as goal
 
 -- The first i keep their rule, and are counted. Assumes nothing.

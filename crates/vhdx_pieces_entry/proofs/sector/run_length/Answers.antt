@@ -1,6 +1,5 @@
 -- `vhdx_pieces_entry::sector::run_length` meets its contract.
 use mathlib.Core.Path.{sym, ◌∙◌}
-use borrow.Author.Rules.{rules}
 use Rattle.vhdx_pieces_entry.proofs.sector.run_length.Goals as goal
 
 pub returns-then-is_data : goal.returns-then-is_data

@@ -2,7 +2,6 @@
 use native.Mathlib.Omega.{arith}
 use borrow.Author.Tests.{lt-ltb}
 use Rattle.vhdx_pieces_sanity.specs.Sanity.{bounded}
-use borrow.Author.Rules.{rules}
 use Rattle.vhdx_pieces_sanity.proofs.planner.is_bounded.Goals as goal
 
 pub returns : goal.returns

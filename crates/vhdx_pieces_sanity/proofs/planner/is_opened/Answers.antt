@@ -3,7 +3,6 @@ use native.Mathlib.Omega.{arith}
 use borrow.Author.Tests.{lt-ltb, le-ltb, lt-leb, le-leb}
 use Rattle.vhdx_pieces_sanity.specs.Sanity.{opened}
 use Rattle.vhdx_pieces_sanity.proofs.Decided.{from-small}
-use borrow.Author.Rules.{rules}
 use Rattle.vhdx_pieces_sanity.proofs.planner.is_opened.Goals as goal
 
 pub returns-then-t-ge4294967296 : goal.returns-then-t-ge4294967296

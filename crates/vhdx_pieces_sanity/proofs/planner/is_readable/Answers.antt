@@ -1,7 +1,6 @@
 -- `vhdx_pieces_sanity::planner::is_readable` meets its contract.
 use borrow.Author.Tests.{lt-ltb, le-ltb}
 use Rattle.vhdx_pieces_sanity.specs.Sanity.{readable}
-use borrow.Author.Rules.{rules}
 use Rattle.vhdx_pieces_sanity.proofs.planner.is_readable.Goals as goal
 
 pub returns-then-x-ge4294967296 : goal.returns-then-x-ge4294967296

@@ -2,7 +2,6 @@
 use native.Mathlib.Omega.{arith}
 use borrow.Author.Tests.{lt-ltb}
 use Rattle.vhdx_pieces_sanity.specs.Sanity.{sane_phase}
-use borrow.Author.Rules.{rules}
 use Rattle.vhdx_pieces_sanity.proofs.planner.is_sane.Goals as goal
 
 pub returns-in-Header : goal.returns-in-Header

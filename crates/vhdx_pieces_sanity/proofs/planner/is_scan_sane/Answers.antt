@@ -1,6 +1,5 @@
 -- `vhdx_pieces_sanity::planner::is_scan_sane` meets its contract.
 use Rattle.vhdx_pieces_sanity.specs.Sanity.{sane_scan}
-use borrow.Author.Rules.{rules}
 use Rattle.vhdx_pieces_sanity.proofs.planner.is_scan_sane.Goals as goal
 
 pub returns : goal.returns

@@ -1,6 +1,5 @@
 -- `vhdx_pieces_sanity::planner::is_scanning` meets its contract.
 use Rattle.vhdx_pieces_sanity.specs.Sanity.{scanning}
-use borrow.Author.Rules.{rules}
 use Rattle.vhdx_pieces_sanity.proofs.planner.is_scanning.Goals as goal
 
 pub returns : goal.returns

@@ -1,6 +1,5 @@
 -- `vhdx_pieces_sanity::planner::is_staged` meets its contract.
 use Rattle.vhdx_pieces_sanity.specs.Sanity.{staged}
-use borrow.Author.Rules.{rules}
 use Rattle.vhdx_pieces_sanity.proofs.planner.is_staged.Goals as goal
 
 pub returns-in-First : goal.returns-in-First

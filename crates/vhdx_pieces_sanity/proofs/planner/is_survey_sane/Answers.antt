@@ -1,6 +1,5 @@
 -- `vhdx_pieces_sanity::planner::is_survey_sane` meets its contract.
 use Rattle.vhdx_pieces_sanity.specs.Sanity.{sane_survey}
-use borrow.Author.Rules.{rules}
 use Rattle.vhdx_pieces_sanity.proofs.planner.is_survey_sane.Goals as goal
 
 pub returns : goal.returns

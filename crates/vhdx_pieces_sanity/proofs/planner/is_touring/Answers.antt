@@ -4,7 +4,6 @@ use native.Mathlib.Omega.{arith}
 use borrow.Author.Tests.{lt-ltb, le-ltb, eq-eqb, ne_eqb, not-true, not-false}
 use Rattle.vhdx_pieces_sanity.specs.Sanity.{touring}
 use Rattle.vhdx_pieces_sanity.proofs.Decided.{tour-standing}
-use borrow.Author.Rules.{rules}
 use mathlib.Core.Path.{ap}
 use mathlib.Core.Bool.{not}
 use Rattle.vhdx_pieces_sanity.proofs.planner.is_touring.Goals as goal

@@ -1,7 +1,6 @@
 -- `vhdx_pieces_sanity::planner::is_upright` meets its contract.
 use borrow.Author.Tests.{lt-ltb, le-ltb}
 use Rattle.vhdx_pieces_sanity.specs.Sanity.{upright}
-use borrow.Author.Rules.{rules}
 use Rattle.vhdx_pieces_sanity.proofs.planner.is_upright.Goals as goal
 
 pub returns-then-n-ge1048576 : goal.returns-then-n-ge1048576

@@ -3,7 +3,6 @@ use Prim.Native.Nat.{◌+◌}
 use native.Mathlib.Omega.{arith}
 use borrow.Author.Tests.{le-ltb}
 use Rattle.vhdx_entry.specs.Entry.{descriptor_sectors}
-use borrow.Author.Rules.{rules}
 use Rattle.vhdx_pieces_sanity.proofs.walker.holds_data.Goals as goal
 
 pub returns-then-w-d : goal.returns-then-w-d

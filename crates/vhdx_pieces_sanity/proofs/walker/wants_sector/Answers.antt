@@ -3,7 +3,6 @@ use mathlib.Core.Path.{sym, ◌∙◌}
 use borrow.Author.Tests.{not-true, not-false}
 use Rattle.vhdx_pieces_sanity.specs.Sanity.{wants}
 use Rattle.vhdx_pieces_sanity.proofs.Decided.{walker-opened}
-use borrow.Author.Rules.{rules}
 use mathlib.Core.Path.{ap}
 use mathlib.Core.Bool.{not}
 use Rattle.vhdx_pieces_sanity.proofs.walker.wants_sector.Goals as goal

@@ -1,6 +1,5 @@
 -- `vhdx_pieces_sanity::walker::writes_sector` meets its contract.
 use Rattle.vhdx_pieces_sanity.specs.Sanity.{writes}
-use borrow.Author.Rules.{rules}
 use Rattle.vhdx_pieces_sanity.proofs.walker.writes_sector.Goals as goal
 
 pub returns-in-Header : goal.returns-in-Header

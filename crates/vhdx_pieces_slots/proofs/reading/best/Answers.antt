@@ -1,6 +1,5 @@
 -- `vhdx_pieces_slots::reading::best` meets its contract.
 use borrow.Author.Tests.{eq-eqb, ne_eqb}
-use borrow.Author.Rules.{rules}
 use Rattle.vhdx_pieces_slots.proofs.reading.best.Goals as goal
 
 pub returns-then-slots-eq1 : goal.returns-then-slots-eq1

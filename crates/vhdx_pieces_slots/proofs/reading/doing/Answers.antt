@@ -1,6 +1,5 @@
 -- `vhdx_pieces_slots::reading::doing` meets its contract.
 use Rattle.vhdx_pieces_slots.specs.Slots.{doing_from}
-use borrow.Author.Rules.{rules}
 use Rattle.vhdx_pieces_slots.proofs.reading.doing.Goals as goal
 
 pub returns : goal.returns

@@ -1,7 +1,6 @@
 -- `vhdx_pieces_slots::reading::machine` meets its contract.
 use borrow.Author.Tests.{eq-eqb, ne_eqb}
 use Rattle.vhdx_pieces_slots.specs.Slots.{machine_from}
-use borrow.Author.Rules.{rules}
 use Rattle.vhdx_pieces_slots.proofs.reading.machine.Goals as goal
 
 pub returns-then-slots-eq1 : goal.returns-then-slots-eq1

@@ -1,6 +1,5 @@
 -- `vhdx_pieces_slots::reading::planner` meets its contract.
 use Rattle.vhdx_pieces_slots.specs.Slots.{planner_from}
-use borrow.Author.Rules.{rules}
 use Rattle.vhdx_pieces_slots.proofs.reading.planner.Goals as goal
 
 pub returns : goal.returns

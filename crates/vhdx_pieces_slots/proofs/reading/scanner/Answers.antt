@@ -1,6 +1,5 @@
 -- `vhdx_pieces_slots::reading::scanner` meets its contract.
 use Rattle.vhdx_pieces_slots.specs.Slots.{scanner_from}
-use borrow.Author.Rules.{rules}
 use Rattle.vhdx_pieces_slots.proofs.reading.scanner.Goals as goal
 
 pub returns : goal.returns

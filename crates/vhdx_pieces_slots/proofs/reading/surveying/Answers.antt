@@ -1,6 +1,5 @@
 -- `vhdx_pieces_slots::reading::surveying` meets its contract.
 use Rattle.vhdx_pieces_slots.specs.Slots.{surveying_from}
-use borrow.Author.Rules.{rules}
 use Rattle.vhdx_pieces_slots.proofs.reading.surveying.Goals as goal
 
 pub returns : goal.returns

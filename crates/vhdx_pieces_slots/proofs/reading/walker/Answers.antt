@@ -1,6 +1,5 @@
 -- `vhdx_pieces_slots::reading::walker` meets its contract.
 use Rattle.vhdx_pieces_slots.specs.Slots.{walker_from}
-use borrow.Author.Rules.{rules}
 use Rattle.vhdx_pieces_slots.proofs.reading.walker.Goals as goal
 
 pub returns : goal.returns

@@ -1,7 +1,6 @@
 -- `vhdx_pieces_slots::writing::best` meets its contract.
 use Rattle.vhdx_slots.specs.Slots.{in_slots}
 use Rattle.vhdx_pieces_slots.specs.Slots.{best_in}
-use borrow.Author.Rules.{rules}
 use Rattle.vhdx_pieces_slots.proofs.writing.best.Goals as goal
 
 pub returns-in-At : goal.returns-in-At

@@ -2,7 +2,6 @@
 use mathlib.Core.Path.{refl}
 use Rattle.vhdx_slots.specs.Slots.{in_slots}
 use Rattle.vhdx_pieces_slots.specs.Slots.{context_in}
-use borrow.Author.Rules.{rules}
 use Rattle.vhdx_pieces_slots.proofs.writing.context.Goals as goal
 
 pub returns : goal.returns

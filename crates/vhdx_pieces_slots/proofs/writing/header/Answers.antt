@@ -1,7 +1,6 @@
 -- `vhdx_pieces_slots::writing::header` meets its contract.
 use Rattle.vhdx_slots.specs.Slots.{in_slots}
 use Rattle.vhdx_pieces_slots.specs.Slots.{header_in}
-use borrow.Author.Rules.{rules}
 use Rattle.vhdx_pieces_slots.proofs.writing.header.Goals as goal
 
 pub returns-in-Identifier : goal.returns-in-Identifier

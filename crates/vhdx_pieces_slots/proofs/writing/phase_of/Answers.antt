@@ -1,7 +1,6 @@
 -- `vhdx_pieces_slots::writing::phase_of` meets its contract.
 use Rattle.vhdx_slots.specs.Slots.{in_slots}
 use Rattle.vhdx_pieces_slots.specs.Slots.{phase_in}
-use borrow.Author.Rules.{rules}
 use Rattle.vhdx_pieces_slots.proofs.writing.phase_of.Goals as goal
 
 pub returns-in-Header : goal.returns-in-Header

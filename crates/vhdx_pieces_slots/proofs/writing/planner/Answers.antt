@@ -1,6 +1,5 @@
 -- `vhdx_pieces_slots::writing::planner` meets its contract.
 use Rattle.vhdx_pieces_slots.specs.Slots.{planner_in}
-use borrow.Author.Rules.{rules}
 use Rattle.vhdx_pieces_slots.proofs.writing.planner.Goals as goal
 
 pub returns : goal.returns

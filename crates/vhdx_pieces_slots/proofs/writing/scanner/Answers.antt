@@ -1,7 +1,6 @@
 -- `vhdx_pieces_slots::writing::scanner` meets its contract.
 use Rattle.vhdx_slots.specs.Slots.{in_slots}
 use Rattle.vhdx_pieces_slots.specs.Slots.{scanner_in}
-use borrow.Author.Rules.{rules}
 use Rattle.vhdx_pieces_slots.proofs.writing.scanner.Goals as goal
 
 pub returns : goal.returns
