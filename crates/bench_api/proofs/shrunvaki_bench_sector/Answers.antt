@@ -8,7 +8,6 @@ use Rattle.vhdx_walk.specs.declared.Next.TheVariants.{End}
 use Rattle.vhdx_log.specs.Plan.{plan}
 use Rattle.vhdx_log.specs.Answers.{log_of}
 use Rattle.bench_api.proofs.Laws.{refused-sectors, applied-ready, applied-sectors, no-sector, zero-sector, data-sector}
-use borrow.Author.Rules.{rules}
 use Rattle.bench_api.proofs.shrunvaki_bench_sector.Goals as goal
 
 pub nth-requires : goal.nth-requires

@@ -4,7 +4,6 @@ use lib.ListN.{length}
 use borrow.Author.Tests.{le-leb, lt-leb}
 use Rattle.extent.specs.Extent.{mib}
 use Rattle.bench_api.specs.Tables.{reading_of}
-use borrow.Author.Rules.{rules}
 use Rattle.bench_api.proofs.tables.read.Goals as goal
 
 pub returns-then-image-lt1048576 : goal.returns-then-image-lt1048576

@@ -2,7 +2,6 @@
 use mathlib.Core.Path.{ap, ◌∙◌}
 use Rattle.vhdx_tables.specs.declared.Reading.{Reading}
 use Rattle.vhdx_slots.specs.Slots.{facts_in}
-use borrow.Author.Rules.{rules}
 use Rattle.bench_api.proofs.tables.shrunvaki_bench_tables.Goals as goal
 
 pub returns : goal.returns
