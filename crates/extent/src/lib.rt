@@ -41,9 +41,9 @@ pub fn is_inside(offset: u64, length: u64, size: u64) -> bool
 // The bytes that an extent names: no copy, but the very part of the slice, which starts at the extent's offset.
 pub fn part(bytes: &[u8], e: Extent) -> &[u8]
     requires { e.offset + e.length ≤ length_of bytes.now }
-    ensures result_value { result.now ≡ part_of bytes.now e }
-    ensures result_value_2 { length_of result.now ≡ e.length }
-    ensures ref_ptr_value { result.ref_ptr ≡ onward bytes.entry.ref_ptr e.offset }
+    ensures bytes { result.now ≡ part_of bytes.now e }
+    ensures len { length_of result.now ≡ e.length }
+    ensures place { result.ref_ptr ≡ onward bytes.entry.ref_ptr e.offset }
 {
     let start = e.offset as usize;
     let end = start + e.length as usize;

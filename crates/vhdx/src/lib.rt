@@ -153,9 +153,9 @@ pub fn lookup(facts: Facts, buffer: &[u8], length: u64, sector: u64) -> vhdx_map
 // The value of a key of the parent locator, as the very part of the buffer; the empty beginning of the buffer where there is
 // none.
 pub fn parent_key<'a>(facts: Facts, buffer: &'a [u8], length: u64, key: &[u8]) -> &'a [u8]
-    ensures result_value { result.now ≡ part_of buffer.now (key_extent facts buffer.now length key.now) }
-    ensures result_value_2 { length_of result.now ≡ (key_extent facts buffer.now length key.now).length }
-    ensures ref_ptr_value { result.ref_ptr ≡ onward buffer.entry.ref_ptr (key_extent facts buffer.now length key.now).offset }
+    ensures bytes { result.now ≡ part_of buffer.now (key_extent facts buffer.now length key.now) }
+    ensures len { length_of result.now ≡ (key_extent facts buffer.now length key.now).length }
+    ensures place { result.ref_ptr ≡ onward buffer.entry.ref_ptr (key_extent facts buffer.now length key.now).offset }
 {
     vhdx_parent::value(facts, buffer, length, key)
 }

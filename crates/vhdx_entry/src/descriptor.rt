@@ -8,8 +8,8 @@ use crate::ring::RingPos;
 // Descriptor i of the entry at a position.
 pub fn at(log: &[u8], pos: RingPos, i: usize) -> &[u8]
     requires { On log.now pos × (descriptor_start (i + 1) ≤ length log.now) }
-    ensures result_value { result.now ≡ descriptor_of (ring_of log.now pos.at) i }
-    ensures result_len { length result.now ≡ 32 }
+    ensures bytes { result.now ≡ descriptor_of (ring_of log.now pos.at) i }
+    ensures len { length result.now ≡ 32 }
 {
     let from = pos.offset(64 + 32 * i);
     let to = from + 32;

@@ -16,7 +16,7 @@ impl RingPos {
     pub fn advance(self, by: usize) -> RingPos
         requires { (self.at < self.len) × (by ≤ self.len) }
         ensures value { result ≡ advanced self by }
-        ensures at_lt_len { (result.at < self.len) × (result.len ≡ self.len) }
+        ensures on_ring { (result.at < self.len) × (result.len ≡ self.len) }
     {
         let at = self.at;
         let len = self.len;
@@ -34,7 +34,7 @@ impl RingPos {
     pub fn offset(self, n: usize) -> usize
         requires { (self.at < self.len) × (n < self.len * 4096) × (self.len * 4096 < 2 ^ 64) }
         ensures value { result ≡ offset_in self n }
-        ensures result_bound { result + 4096 ≤ self.len * 4096 + n % 4096 }
+        ensures sector_fits { result + 4096 ≤ self.len * 4096 + n % 4096 }
     {
         self.advance(n / SECTOR).at * SECTOR + n % SECTOR
     }
@@ -42,8 +42,8 @@ impl RingPos {
 
 pub fn sector(log: &[u8], pos: RingPos) -> &[u8]
     requires { On log.now pos }
-    ensures result_value { result.now ≡ sector_at log.now pos.at }
-    ensures result_len { length result.now ≡ 4096 }
+    ensures bytes { result.now ≡ sector_at log.now pos.at }
+    ensures len { length result.now ≡ 4096 }
 {
     let start = pos.at * SECTOR;
     let end = start + SECTOR;

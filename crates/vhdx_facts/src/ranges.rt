@@ -21,8 +21,8 @@ pub fn is_block_size(n: u64) -> bool
 
 // The binary logarithm of a block size, so that a shift divides by it; 0 of any other number.
 pub fn block_shift(n: u64) -> u8
-    ensures result_value { nat_lt 0 result ≡ block_size_rule n }
-    ensures result_value_2 { block_size_rule n ≡ true → 2 ^ result ≡ n }
+    ensures is_size { nat_lt 0 result ≡ block_size_rule n }
+    ensures power { block_size_rule n ≡ true → 2 ^ result ≡ n }
     ensures upper_bound { result < 64 }
 {
     match n {

@@ -85,8 +85,8 @@ pub fn chosen_slot(first: bool, second: bool, number1: u64, number2: u64) -> Slo
 
 fn header_at(m: &[u8], at: usize) -> &[u8]
     requires { at + 4096 ≤ length m.now }
-    ensures result_value { result.now ≡ header_at m.now at }
-    ensures result_len { length result.now ≡ 4096 }
+    ensures bytes { result.now ≡ header_at m.now at }
+    ensures len { length result.now ≡ 4096 }
 {
     let end = at + 4096;
     &m[at..end]

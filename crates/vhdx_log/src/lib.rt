@@ -36,9 +36,9 @@ pub enum Answer {
 
 // Of the image that is the first length bytes of the buffer.
 pub fn plan(buffer: &[u8], length: u64) -> Answer
-    ensures result_value { plan_of buffer.now length result ≡ plan_for buffer.now length }
-    ensures result_value_2 { count_of result ≡ count (plan_for buffer.now length) }
-    ensures ready_in { ReadyIn (log_of buffer.now length) result }
+    ensures planned { plan_of buffer.now length result ≡ plan_for buffer.now length }
+    ensures counted { count_of result ≡ count (plan_for buffer.now length) }
+    ensures ready { ReadyIn (log_of buffer.now length) result }
 {
     match vhdx_header::read(buffer, length) {
         vhdx_header::Answer::Refused(number) => Answer::Refused(number),

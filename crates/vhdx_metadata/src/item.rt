@@ -61,8 +61,8 @@ pub fn extent(region: &[u8], row: usize) -> Extent
 // The bytes of an item of fixed length that is there.
 pub fn bytes(region: &[u8], row: usize) -> &[u8]
     requires { (65536 ≤ length_of region.now) × (metadata_rule region.now ≡ true) × (row < 5) × (is_there region.now row ≡ true) }
-    ensures result_value { result.now ≡ item_of region.now row }
-    ensures result_value_2 { length_of result.now ≡ get_or known_lengths row 0 }
+    ensures bytes { result.now ≡ item_of region.now row }
+    ensures len { length_of result.now ≡ get_or known_lengths row 0 }
 {
     extent::part(region, extent(region, row))
 }

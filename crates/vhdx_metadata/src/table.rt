@@ -28,8 +28,8 @@ fn count(region: &[u8]) -> usize
 
 pub fn entry(region: &[u8], i: usize) -> &[u8]
     requires { (65536 ≤ length_of region.now) × (i < 2047) }
-    ensures result_value { result.now ≡ entry_at region.now i }
-    ensures result_value_2 { length_of result.now ≡ 32 }
+    ensures bytes { result.now ≡ entry_at region.now i }
+    ensures len { length_of result.now ≡ 32 }
 {
     let at = 32 + 32 * i;
     let end = at + 32;

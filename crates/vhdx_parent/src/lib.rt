@@ -11,9 +11,9 @@ use vhdx_facts::Facts;
 // The value as the very part of the caller's buffer, which starts at the value's offset; the empty beginning of the buffer where
 // there is none. The image is the buffer's first `length` bytes.
 pub fn value<'a>(facts: Facts, buffer: &'a [u8], length: u64, key: &[u8]) -> &'a [u8]
-    ensures result_value { result.now ≡ part_of buffer.now (key_extent facts buffer.now length key.now) }
-    ensures result_value_2 { length_of result.now ≡ (key_extent facts buffer.now length key.now).length }
-    ensures ref_ptr_value { result.ref_ptr ≡ onward buffer.entry.ref_ptr (key_extent facts buffer.now length key.now).offset }
+    ensures bytes { result.now ≡ part_of buffer.now (key_extent facts buffer.now length key.now) }
+    ensures len { length_of result.now ≡ (key_extent facts buffer.now length key.now).length }
+    ensures place { result.ref_ptr ≡ onward buffer.entry.ref_ptr (key_extent facts buffer.now length key.now).offset }
 {
     extent::part(buffer, value_extent(facts, buffer, length, key))
 }

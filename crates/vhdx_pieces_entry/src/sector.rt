@@ -28,8 +28,8 @@ pub fn descriptors(s: &[u8], from: usize, m: usize, number: u64) -> Tally
 // The 32 bytes of a sector from `start` on.
 pub fn at(s: &[u8], start: usize) -> &[u8]
     requires { (length s.now ≡ 4096) × (start + 32 ≤ 4096) }
-    ensures result_value { result.now ≡ take 32 (drop start s.now) }
-    ensures result_len { length result.now ≡ 32 }
+    ensures bytes { result.now ≡ take 32 (drop start s.now) }
+    ensures len { length result.now ≡ 32 }
 {
     let end = start + 32;
     &s[start..end]

@@ -52,8 +52,8 @@ pub fn read(image: &[u8], log: Extent) -> Answer
 
 fn table_at(image: &[u8], at: usize) -> &[u8]
     requires { at + 65536 ≤ length_of image.now }
-    ensures result_value { result.now ≡ table_at image.now at }
-    ensures result_value_2 { length_of result.now ≡ 65536 }
+    ensures bytes { result.now ≡ table_at image.now at }
+    ensures len { length_of result.now ≡ 65536 }
 {
     let end = at + 65536;
     &image[at..end]

@@ -32,8 +32,8 @@ fn count(t: &[u8]) -> usize
 
 pub fn entry(t: &[u8], i: usize) -> &[u8]
     requires { (length_of t.now ≡ 65536) × (i < 2047) }
-    ensures result_value { result.now ≡ entry_at t.now i }
-    ensures result_value_2 { length_of result.now ≡ 32 }
+    ensures bytes { result.now ≡ entry_at t.now i }
+    ensures len { length_of result.now ≡ 32 }
 {
     let at = 16 + 32 * i;
     let end = at + 32;

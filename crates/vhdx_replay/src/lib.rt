@@ -76,7 +76,7 @@ fn write_next(buffer: &mut [u8], log: Extent, walk: Walk) -> Walk
     requires { (log.offset + log.length ≤ length_of buffer.old) × Ready (part_of buffer.old log) walk × Settled (part_of buffer.old log) walk × first_fits_in (sectors_left (part_of buffer.old log) walk) (length_of buffer.old) }
     ensures buffer_after { buffer.new ≡ first_written (sectors_left (part_of buffer.old log) walk) buffer.old }
     ensures ready { Ready (part_of buffer.old log) result }
-    ensures result_value { (sectors_left (part_of buffer.old log) result ≡ drop 1 (sectors_left (part_of buffer.old log) walk)) × Settled (part_of buffer.old log) result }
+    ensures rest { (sectors_left (part_of buffer.old log) result ≡ drop 1 (sectors_left (part_of buffer.old log) walk)) × Settled (part_of buffer.old log) result }
 {
     match walk.current(extent::part(buffer, log)) {
         Next::End => walk,

@@ -20,7 +20,7 @@ fn no_identifier() -> [u8; 16]
 fn rewrite(h: &[u8], identifier: &[u8; 16]) -> [u8; 4096]
     requires { (length_of h.now ≡ 4096) × (sequence_number_of h.now < greatest) }
     ensures value { result ≡ rewritten h.now identifier.now }
-    ensures result_value { length_of result ≡ 4096 }
+    ensures len { length_of result ≡ 4096 }
 {
     let mut out = store::blank();
     store::bytes(&mut out, 0, h);
@@ -36,7 +36,7 @@ fn rewrite(h: &[u8], identifier: &[u8; 16]) -> [u8; 4096]
 fn closed(h: &[u8], identifier: &[u8; 16]) -> [u8; 4096]
     requires { (length_of h.now ≡ 4096) × (sequence_number_of h.now < greatest) }
     ensures value { result ≡ closed_header h.now identifier.now }
-    ensures result_value { length_of result ≡ 4096 }
+    ensures len { length_of result ≡ 4096 }
 {
     let mut out = rewrite(h, identifier);
     let sum = number::bytes4(crc32c::checksum_zeroed(&out, 4));
@@ -56,7 +56,7 @@ fn other_slot(slot: u64) -> u64
 pub fn write(buffer: &mut [u8], slot: u64, identifier: &[u8; 16])
     requires { Closable buffer.old slot }
     ensures buffer_after { buffer.new ≡ header_written buffer.old slot identifier.now }
-    ensures identifier_value { length_of (closed_header (header_at (first_mib buffer.old) slot) identifier.now) ≡ 4096 }
+    ensures header_len { length_of (closed_header (header_at (first_mib buffer.old) slot) identifier.now) ≡ 4096 }
 {
     let at = slot as usize;
     let end = at + 4096;

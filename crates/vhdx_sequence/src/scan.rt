@@ -22,8 +22,8 @@ pub struct Trace {
 impl Trace {
     // No entry was met yet, in a ring of `len` sectors.
     pub fn new(len: usize) -> Trace
-        ensures result_value { state_of result ≡ fresh }
-        ensures at_value { (result.start.pos.at ≡ 0) × (result.start.pos.len ≡ len) }
+        ensures state { state_of result ≡ fresh }
+        ensures start { (result.start.pos.at ≡ 0) × (result.start.pos.len ≡ len) }
     {
         Trace {
             start: Place {
@@ -54,7 +54,7 @@ impl Trace {
     // The entry that starts at a place is taken up.
     pub fn take(self, log: &[u8], place: Place, e: Entry) -> Trace
         requires { Takes log.now place self e }
-        ensures result_value { state_of result ≡ taken log.now place.pos.len place.count (state_of self) e }
+        ensures state { state_of result ≡ taken log.now place.pos.len place.count (state_of self) e }
         ensures placed { Placed place.pos.len result.start }
     {
         let tail = ring::sector(
@@ -70,7 +70,7 @@ impl Trace {
     // The same, given the sector that its Tail names.
     pub fn take_by(self, tail: &[u8], place: Place, e: Entry) -> Trace
         requires { (length tail.now ≡ 4096) × Taking place self e }
-        ensures result_value { state_of result ≡ taken_by place.pos.len place.count (run_from place.count (state_of self) e.number) (state_of self) e (signature_rule tail.now) (sequence_number_of tail.now) }
+        ensures state { state_of result ≡ taken_by place.pos.len place.count (run_from place.count (state_of self) e.number) (state_of self) e (signature_rule tail.now) (sequence_number_of tail.now) }
         ensures placed { Placed place.pos.len result.start }
     {
         let best = self.best;
@@ -87,7 +87,7 @@ impl Trace {
 // Where the run began that an entry with this number at a place is in.
 fn run_from(trace: Trace, place: Place, number: u64) -> Place
     requires { Placed place.pos.len place × Placed place.pos.len trace.start }
-    ensures count_value { result.count ≡ run_from place.count (state_of trace) number }
+    ensures count { result.count ≡ run_from place.count (state_of trace) number }
     ensures placed { Placed place.pos.len result }
 {
     if place.count == trace.next {

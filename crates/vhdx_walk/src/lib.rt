@@ -49,7 +49,7 @@ impl Walk {
     pub fn forward(self, log: &[u8], k: u64) -> Walk
         requires { Ready log.now self }
         ensures ready { Ready log.now result }
-        ensures result_value { (sectors_left log.now result ≡ drop k (sectors_left log.now self)) × Settled log.now result }
+        ensures rest { (sectors_left log.now result ≡ drop k (sectors_left log.now self)) × Settled log.now result }
     {
         let mut walk = self;
         let mut left = k;
@@ -71,7 +71,7 @@ impl Walk {
     fn within(self, log: &[u8], j: u64) -> Walk
         requires { Ready log.now self × (j < self.run.length / 4096) }
         ensures ready { Ready log.now result }
-        ensures result_value { (sectors_left log.now result ≡ drop j (sectors_left log.now self)) × (4096 ≤ result.run.length) }
+        ensures rest { (sectors_left log.now result ≡ drop j (sectors_left log.now self)) × (4096 ≤ result.run.length) }
     {
         let run = self.run;
         let source = run.source;
@@ -89,8 +89,8 @@ impl Walk {
     // The sector that a walk is at.
     pub fn current(self, log: &[u8]) -> Next
         requires { Ready log.now self × Settled log.now self }
-        ensures result_value { next_of log.now result ≡ get_elem? (sectors_left log.now self) 0 }
-        ensures held_next { HeldNext log.now result }
+        ensures next { next_of log.now result ≡ get_elem? (sectors_left log.now self) 0 }
+        ensures held { HeldNext log.now result }
     {
         let run = self.run;
         if run.length < 4096 {
@@ -107,8 +107,8 @@ impl Walk {
     // Sector number k of those that are still to come.
     pub fn nth(self, log: &[u8], k: u64) -> Next
         requires { Ready log.now self }
-        ensures result_value { next_of log.now result ≡ get_elem? (sectors_left log.now self) k }
-        ensures held_next { HeldNext log.now result }
+        ensures next { next_of log.now result ≡ get_elem? (sectors_left log.now self) k }
+        ensures held { HeldNext log.now result }
     {
         let there = self.forward(log, k);
         there.current(log)

@@ -29,7 +29,7 @@ pub struct Run {
 // before it.
 pub fn of_data(log: &[u8], pos: RingPos, count: usize, index: usize, rank: usize) -> Run
     requires { On log.now pos × (count ≡ descriptor_count (ring_of log.now pos.at)) × (count < 4294967296) × (descriptor_start (index + 1) ≤ length log.now) × (descriptor_sectors count + rank < pos.len) }
-    ensures result_value { descriptor_in log.now result ≡ writes (file_offset (descriptor_bytes (ring_of log.now pos.at) index)) (sector_bytes (descriptor_bytes (ring_of log.now pos.at) index) (data_sector (ring_of log.now pos.at) rank)) }
+    ensures descriptor { descriptor_in log.now result ≡ writes (file_offset (descriptor_bytes (ring_of log.now pos.at) index)) (sector_bytes (descriptor_bytes (ring_of log.now pos.at) index) (data_sector (ring_of log.now pos.at) rank)) }
     ensures proper { Proper log.now result }
 {
     let place = pos.offset(64 + 32 * index);

@@ -16,7 +16,7 @@ nth-requires c =
     let r = c.plan.result in
     let log = log_of a.buffer.now a.length in
     let defined = plan a.buffer.now a.length in
-    subst (λ (l : List ℕ). Ready l c.from.result) (sym c.log.ensures) (applied-ready log defined r c.plan.ensures.result_value c.plan.ensures.ready_in c.in-Apply.is c.from.ensures)
+    subst (λ (l : List ℕ). Ready l c.from.result) (sym c.log.ensures) (applied-ready log defined r c.plan.ensures.planned c.plan.ensures.ready c.in-Apply.is c.from.ensures)
 
 pub returns-in-Refused : goal.returns-in-Refused
 returns-in-Refused c =
@@ -24,7 +24,7 @@ returns-in-Refused c =
     let r = c.plan.result in
     let log = log_of a.buffer.now a.length in
     let defined = plan a.buffer.now a.length in
-    no-sector {n = End} (refused-sectors log defined r c.plan.ensures.result_value c.plan.ensures.ready_in a.k c.in-Refused.is) a.answer.now refl
+    no-sector {n = End} (refused-sectors log defined r c.plan.ensures.planned c.plan.ensures.ready a.k c.in-Refused.is) a.answer.now refl
 
 pub returns-in-End : goal.returns-in-End
 returns-in-End c =
@@ -32,8 +32,8 @@ returns-in-End c =
     let r = c.plan.result in
     let log = log_of a.buffer.now a.length in
     let defined = plan a.buffer.now a.length in
-    let there = subst (λ (l : List ℕ). next_of l c.nth.result ≡ get_elem? (sectors_left l c.from.result) a.k) c.log.ensures c.nth.ensures.result_value in
-    let is = applied-sectors log defined r c.plan.ensures.result_value c.plan.ensures.ready_in a.k c.in-Apply.is c.from.ensures there in
+    let there = subst (λ (l : List ℕ). next_of l c.nth.result ≡ get_elem? (sectors_left l c.from.result) a.k) c.log.ensures c.nth.ensures.next in
+    let is = applied-sectors log defined r c.plan.ensures.planned c.plan.ensures.ready a.k c.in-Apply.is c.from.ensures there in
     no-sector is a.answer.now c.in-End.is
 
 pub returns-in-Zeros : goal.returns-in-Zeros
@@ -42,8 +42,8 @@ returns-in-Zeros c =
     let r = c.plan.result in
     let log = log_of a.buffer.now a.length in
     let defined = plan a.buffer.now a.length in
-    let there = subst (λ (l : List ℕ). next_of l c.nth.result ≡ get_elem? (sectors_left l c.from.result) a.k) c.log.ensures c.nth.ensures.result_value in
-    let is = applied-sectors log defined r c.plan.ensures.result_value c.plan.ensures.ready_in a.k c.in-Apply.is c.from.ensures there in
+    let there = subst (λ (l : List ℕ). next_of l c.nth.result ≡ get_elem? (sectors_left l c.from.result) a.k) c.log.ensures c.nth.ensures.next in
+    let is = applied-sectors log defined r c.plan.ensures.planned c.plan.ensures.ready a.k c.in-Apply.is c.from.ensures there in
     zero-sector is a.answer.now c.in-Sector.is c.in-Zeros.is
 
 pub returns-in-Data : goal.returns-in-Data
@@ -52,6 +52,6 @@ returns-in-Data c =
     let r = c.plan.result in
     let log = log_of a.buffer.now a.length in
     let defined = plan a.buffer.now a.length in
-    let there = subst (λ (l : List ℕ). next_of l c.nth.result ≡ get_elem? (sectors_left l c.from.result) a.k) c.log.ensures c.nth.ensures.result_value in
-    let is = applied-sectors log defined r c.plan.ensures.result_value c.plan.ensures.ready_in a.k c.in-Apply.is c.from.ensures there in
+    let there = subst (λ (l : List ℕ). next_of l c.nth.result ≡ get_elem? (sectors_left l c.from.result) a.k) c.log.ensures c.nth.ensures.next in
+    let is = applied-sectors log defined r c.plan.ensures.planned c.plan.ensures.ready a.k c.in-Apply.is c.from.ensures there in
     data-sector is a.answer.now c.in-Sector.is c.in-Data.is

@@ -12,4 +12,4 @@ returns c =
     let a = c.args in
     let taken = part-taken a.bytes.now a.e.offset a.e.length (omega arith) in
     let start : ◌≡◌ {A = ℕ} (a.e.offset + a.bytes.ref_ptr.1) (a.bytes.ref_ptr.1 + a.e.offset) = omega arith in
-    record { result_value = taken.0; result_value_2 = taken.1; ref_ptr_value = ap (λ (x : ℕ). (a.bytes.ref_ptr.0, x)) start }
+    record { bytes = taken.0; len = taken.1; place = ap (λ (x : ℕ). (a.bytes.ref_ptr.0, x)) start }

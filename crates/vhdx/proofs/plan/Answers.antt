@@ -7,9 +7,9 @@ use Rattle.vhdx.proofs.plan.Goals as goal
 pub returns-in-Refused : goal.returns-in-Refused
 returns-in-Refused c =
     let a = c.args in
-    refused-plan a.buffer.now a.length _ (plan-refused a.buffer.now a.length c.plan.result (c.plan.ensures.result_value, (c.plan.ensures.result_value_2, c.plan.ensures.ready_in)) c.in-Refused.is)
+    refused-plan a.buffer.now a.length _ (plan-refused a.buffer.now a.length c.plan.result (c.plan.ensures.planned, (c.plan.ensures.counted, c.plan.ensures.ready)) c.in-Refused.is)
 
 pub returns-in-Apply : goal.returns-in-Apply
 returns-in-Apply c =
     let a = c.args in
-    applied-plan (work-planned a.buffer.now a.length c.plan.result (c.plan.ensures.result_value, (c.plan.ensures.result_value_2, c.plan.ensures.ready_in)) c.in-Apply.is refl)
+    applied-plan (work-planned a.buffer.now a.length c.plan.result (c.plan.ensures.planned, (c.plan.ensures.counted, c.plan.ensures.ready)) c.in-Apply.is refl)

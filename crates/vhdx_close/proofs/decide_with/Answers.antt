@@ -9,7 +9,7 @@ use Rattle.vhdx_close.proofs.decide_with.Goals as goal
 pub returns-in-Refused : goal.returns-in-Refused
 returns-in-Refused c =
     let a = c.args in
-    λ identifier. no-plan identifier a.buffer.now a.length a.header c.requires (plan-refused a.buffer.now a.length c.plan.result (c.plan.ensures.result_value, (c.plan.ensures.result_value_2, c.plan.ensures.ready_in)) c.in-Refused.is)
+    λ identifier. no-plan identifier a.buffer.now a.length a.header c.requires (plan-refused a.buffer.now a.length c.plan.result (c.plan.ensures.planned, (c.plan.ensures.counted, c.plan.ensures.ready)) c.in-Refused.is)
 
 pub returns-in-Nothing : goal.returns-in-Nothing
 returns-in-Nothing c =
@@ -18,14 +18,14 @@ returns-in-Nothing c =
       header = a.header;
       current = c.requires;
       slot_is = refl;
-      planned = work-planned a.buffer.now a.length c.plan.result (c.plan.ensures.result_value, (c.plan.ensures.result_value_2, c.plan.ensures.ready_in)) c.in-Apply.is (sym (extent-is a.buffer.now a.length c.requires));
+      planned = work-planned a.buffer.now a.length c.plan.result (c.plan.ensures.planned, (c.plan.ensures.counted, c.plan.ensures.ready)) c.in-Apply.is (sym (extent-is a.buffer.now a.length c.requires));
       ends = sym c.last_step.ensures ∙ c.in-Nothing.is;
     }
 
 pub returns-in-TooGreat : goal.returns-in-TooGreat
 returns-in-TooGreat c =
     let a = c.args in
-    let p = work-planned a.buffer.now a.length c.plan.result (c.plan.ensures.result_value, (c.plan.ensures.result_value_2, c.plan.ensures.ready_in)) c.in-Apply.is (sym (extent-is a.buffer.now a.length c.requires)) in
+    let p = work-planned a.buffer.now a.length c.plan.result (c.plan.ensures.planned, (c.plan.ensures.counted, c.plan.ensures.ready)) c.in-Apply.is (sym (extent-is a.buffer.now a.length c.requires)) in
     λ identifier. too-great identifier a.buffer.now a.length a.header c.requires (plan-is a.buffer.now a.length _ _ p) (sym c.in-TooGreat.is ∙ c.last_step.ensures)
 
 pub returns-in-Rewrite : goal.returns-in-Rewrite
@@ -35,6 +35,6 @@ returns-in-Rewrite c =
       header = a.header;
       current = c.requires;
       slot_is = refl;
-      planned = work-planned a.buffer.now a.length c.plan.result (c.plan.ensures.result_value, (c.plan.ensures.result_value_2, c.plan.ensures.ready_in)) c.in-Apply.is (sym (extent-is a.buffer.now a.length c.requires));
+      planned = work-planned a.buffer.now a.length c.plan.result (c.plan.ensures.planned, (c.plan.ensures.counted, c.plan.ensures.ready)) c.in-Apply.is (sym (extent-is a.buffer.now a.length c.requires));
       ends = sym c.last_step.ensures ∙ c.in-Rewrite.is;
     }

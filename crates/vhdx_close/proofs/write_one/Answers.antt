@@ -20,7 +20,7 @@ write-requires c =
 pub returns-then-i-work-2 : goal.returns-then-i-work-2
 returns-then-i-work-2 c =
     let a = c.args in
-    let parts = header-step a.identifier.now a.buffer.now a.length a.job c.requires a.i c.if-job.true c.write.ensures.identifier_value c.if-i-work-2.true c.write.new.buffer c.write.ensures.buffer_after in
+    let parts = header-step a.identifier.now a.buffer.now a.length a.job c.requires a.i c.if-job.true c.write.ensures.header_len c.if-i-work-2.true c.write.new.buffer c.write.ensures.buffer_after in
     record { value = parts.0; buffer_after = parts.1 }
 
 pub returns-else-i-work-2 : goal.returns-else-i-work-2

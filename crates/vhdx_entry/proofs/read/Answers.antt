@@ -11,7 +11,7 @@ use Rattle.vhdx_entry.proofs.read.Goals as goal
 pub size-requires : goal.size-requires
 size-requires c =
     let a = c.args in
-    let h = c.sector-h.ensures.result_value in (
+    let h = c.sector-h.ensures.bytes in (
       c.requires,
       c.sequence_number-number.ensures ∙ in-first a.log.now a.pos.len a.pos.at c.requires h 16 8 (omega arith),
       c.descriptor_count-count.ensures.value ∙ in-first a.log.now a.pos.len a.pos.at c.requires h 24 4 (omega arith),
@@ -21,7 +21,7 @@ size-requires c =
 pub ends_well-requires : goal.ends_well-requires
 ends_well-requires c =
     let a = c.args in
-    let h = c.sector-h.ensures.result_value in
+    let h = c.sector-h.ensures.bytes in
     let rule = c.keeps_rules.ensures ∙ ap (header_rule a.guid (length a.log.now)) h ∙ header-in a.guid a.log.now a.pos.len a.pos.at c.requires.1 c.requires.0 in
     let size = c.size in
     let is = c.in-Whole.is in (
@@ -36,14 +36,14 @@ ends_well-requires c =
 pub returns-in-Broken : goal.returns-in-Broken
 returns-in-Broken c =
     let a = c.args in
-    let h = c.sector-h.ensures.result_value in
+    let h = c.sector-h.ensures.bytes in
     let rule = c.keeps_rules.ensures ∙ ap (header_rule a.guid (length a.log.now)) h ∙ header-in a.guid a.log.now a.pos.len a.pos.at c.requires.1 c.requires.0 in
     no_size a.guid a.log.now a.pos.at rule c.size.result c.size.ensures c.in-Broken.is
 
 pub returns-then-ends_well : goal.returns-then-ends_well
 returns-then-ends_well c =
     let a = c.args in
-    let h = c.sector-h.ensures.result_value in
+    let h = c.sector-h.ensures.bytes in
     let rule = c.keeps_rules.ensures ∙ ap (header_rule a.guid (length a.log.now)) h ∙ header-in a.guid a.log.now a.pos.len a.pos.at c.requires.1 c.requires.0 in
     let size = c.size in
     valid-at a.guid a.log.now a.pos.at rule size.result size.ensures c.in-Whole.is c.if-keeps_rules.true
@@ -54,7 +54,7 @@ returns-then-ends_well c =
 pub returns-else-ends_well : goal.returns-else-ends_well
 returns-else-ends_well c =
     let a = c.args in
-    let h = c.sector-h.ensures.result_value in
+    let h = c.sector-h.ensures.bytes in
     let rule = c.keeps_rules.ensures ∙ ap (header_rule a.guid (length a.log.now)) h ∙ header-in a.guid a.log.now a.pos.len a.pos.at c.requires.1 c.requires.0 in
     let size = c.size in
     bad-end a.guid a.log.now a.pos.at rule size.result size.ensures c.in-Whole.is c.if-keeps_rules.true
@@ -63,6 +63,6 @@ returns-else-ends_well c =
 pub returns-else-keeps_rules : goal.returns-else-keeps_rules
 returns-else-keeps_rules c =
     let a = c.args in
-    let h = c.sector-h.ensures.result_value in
+    let h = c.sector-h.ensures.bytes in
     let rule = c.keeps_rules.ensures ∙ ap (header_rule a.guid (length a.log.now)) h ∙ header-in a.guid a.log.now a.pos.len a.pos.at c.requires.1 c.requires.0 in
     bad-header a.guid a.log.now a.pos.at rule c.if-keeps_rules.false

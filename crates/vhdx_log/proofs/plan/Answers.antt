@@ -11,10 +11,10 @@ pub returns-in-Refused : goal.returns-in-Refused
 returns-in-Refused c =
     let a = c.args in
     let r = plan-refused a.buffer.now a.length _ (sym c.read.ensures ∙ c.in-Refused.is) in
-    record { result_value = r; result_value_2 = ap count r; ready_in = tt }
+    record { planned = r; counted = ap count r; ready = tt }
 
 pub returns-in-Current : goal.returns-in-Current
 returns-in-Current c =
     let a = c.args in
     let p = planned a.buffer.now a.length _ (sym c.read.ensures ∙ c.in-Current.is) c.with_header.result c.with_header.ensures in
-    record { result_value = p.0; result_value_2 = p.1; ready_in = p.2 }
+    record { planned = p.0; counted = p.1; ready = p.2 }

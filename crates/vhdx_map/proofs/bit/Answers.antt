@@ -11,8 +11,8 @@ part-requires c =
     omega (arith, bitmap-inside (length c.args.image.now) c.args.b c.requires)
 
 pub bit-requires : goal.bit-requires
-bit-requires c = omega (arith, c.part.ensures.result_value_2)
+bit-requires c = omega (arith, c.part.ensures.len)
 
 pub returns : goal.returns
 unfolding bit bitmap_byte
-returns c = simp (c.bit.ensures, c.part.ensures.result_value, c.offset.ensures)
+returns c = simp (c.bit.ensures, c.part.ensures.bytes, c.offset.ensures)

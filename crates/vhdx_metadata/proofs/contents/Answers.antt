@@ -16,7 +16,7 @@ bytes-parameters-requires c =
 
 pub u32_at-requires : goal.u32_at-requires
 unfolding known_lengths
-u32_at-requires c = omega (arith, c.bytes-parameters.ensures.result_value_2)
+u32_at-requires c = omega (arith, c.bytes-parameters.ensures.len)
 
 pub bytes-requires : goal.bytes-requires
 bytes-requires c =
@@ -24,7 +24,7 @@ bytes-requires c =
 
 pub u64_at-requires : goal.u64_at-requires
 unfolding known_lengths
-u64_at-requires c = omega (arith, c.bytes.ensures.result_value_2)
+u64_at-requires c = omega (arith, c.bytes.ensures.len)
 
 pub bytes-requires-2 : goal.bytes-requires-2
 bytes-requires-2 c =
@@ -32,7 +32,7 @@ bytes-requires-2 c =
 
 pub u32_at-requires-2 : goal.u32_at-requires-2
 unfolding known_lengths
-u32_at-requires-2 c = omega (arith, c.bytes-2.ensures.result_value_2)
+u32_at-requires-2 c = omega (arith, c.bytes-2.ensures.len)
 
 pub bytes-requires-3 : goal.bytes-requires-3
 bytes-requires-3 c =
@@ -40,7 +40,7 @@ bytes-requires-3 c =
 
 pub u32_at-requires-3 : goal.u32_at-requires-3
 unfolding known_lengths
-u32_at-requires-3 c = omega (arith, c.bytes-3.ensures.result_value_2)
+u32_at-requires-3 c = omega (arith, c.bytes-3.ensures.len)
 
 pub bytes-requires-4 : goal.bytes-requires-4
 bytes-requires-4 c =
@@ -48,7 +48,7 @@ bytes-requires-4 c =
 
 pub guid_at-requires : goal.guid_at-requires
 unfolding known_lengths
-guid_at-requires c = omega (arith, c.bytes-4.ensures.result_value_2)
+guid_at-requires c = omega (arith, c.bytes-4.ensures.len)
 
 pub extent-requires : goal.extent-requires
 extent-requires c =
@@ -61,14 +61,14 @@ returns c =
     simp (
       c.extent.ensures,
       c.guid_at.ensures,
-      c.bytes-4.ensures.result_value,
+      c.bytes-4.ensures.bytes,
       c.u32_at-3.ensures,
-      c.bytes-3.ensures.result_value,
+      c.bytes-3.ensures.bytes,
       c.u32_at-2.ensures,
-      c.bytes-2.ensures.result_value,
+      c.bytes-2.ensures.bytes,
       c.u64_at.ensures,
-      c.bytes.ensures.result_value,
+      c.bytes.ensures.bytes,
       c.u32_at.ensures,
-      c.bytes-parameters.ensures.result_value,
+      c.bytes-parameters.ensures.bytes,
       c.has_parent-has_parent.ensures,
     )

@@ -16,4 +16,4 @@ part-requires c =
 pub returns : goal.returns
 returns c =
     let a = c.args in
-    record { result_value = c.part.ensures.result_value ∙ ap (part a.buffer.now) c.value_extent.ensures; result_value_2 = c.part.ensures.result_value_2 ∙ ap (λ (x : Extent). x.length) c.value_extent.ensures; ref_ptr_value = c.part.ensures.ref_ptr_value ∙ ap (λ (x : Extent). onward a.buffer.ref_ptr x.offset) c.value_extent.ensures }
+    record { bytes = c.part.ensures.bytes ∙ ap (part a.buffer.now) c.value_extent.ensures; len = c.part.ensures.len ∙ ap (λ (x : Extent). x.length) c.value_extent.ensures; place = c.part.ensures.place ∙ ap (λ (x : Extent). onward a.buffer.ref_ptr x.offset) c.value_extent.ensures }

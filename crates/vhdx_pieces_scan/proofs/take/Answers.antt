@@ -15,4 +15,4 @@ resume-requires c =
     asked-moved c.take_by-after.result c.args.e.size c.requires.0 c.advance.ensures c.take_by-after.ensures.placed
 
 pub returns : goal.returns
-returns c = resumed-at c.args.place c.advance.result c.args.e.size _ (state_of c.take_by-after.result) c.advance.ensures c.take_by-after.ensures.result_value c.resume.ensures
+returns c = resumed-at c.args.place c.advance.result c.args.e.size _ (state_of c.take_by-after.result) c.advance.ensures c.take_by-after.ensures.state c.resume.ensures

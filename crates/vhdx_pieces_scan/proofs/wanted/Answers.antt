@@ -20,7 +20,7 @@ returns-in-First c =
 pub returns-in-Inside : goal.returns-in-Inside
 returns-in-Inside c =
     let s = c.args.s in
-    (ap (λ (p : RingPos). p.at) c.advance.ensures.value ∙ sym (ap (wanted_in s.place.pos.len s.place.pos.at) c.in-Inside.is), c.advance.ensures.at_lt_len.0)
+    (ap (λ (p : RingPos). p.at) c.advance.ensures.value ∙ sym (ap (wanted_in s.place.pos.len s.place.pos.at) c.in-Inside.is), c.advance.ensures.on_ring.0)
 
 pub returns-in-Tail : goal.returns-in-Tail
 returns-in-Tail c =

@@ -15,7 +15,7 @@ pub at-requires : goal.at-requires
 at-requires c = let inv = c.loop-i.invariant in (inv.0, omega (arith, inv.1, c.loop-i-test.true))
 
 pub add-all-requires : goal.add-all-requires
-add-all-requires c = c.at.ensures.result_len
+add-all-requires c = c.at.ensures.len
 
 pub loop-i-preserved : goal.loop-i-preserved
 unfolding descriptor_in
@@ -25,7 +25,7 @@ loop-i-preserved c =
       inv.0,
       inv.1,
       omega (arith, c.loop-i-test.true),
-      c.add-all.ensures ∙ ap₂ (added_by a.log) inv.3 c.at.ensures.result_value ∙ sym (survey-more a.log a.found a.s.now a.from c.loop-i.i),
+      c.add-all.ensures ∙ ap₂ (added_by a.log) inv.3 c.at.ensures.bytes ∙ sym (survey-more a.log a.found a.s.now a.from c.loop-i.i),
     )
 
 pub returns : goal.returns

@@ -35,7 +35,7 @@ meet-requires c =
     let n : c.past.result.count ≡ w.count = ap (λ (x : Walker). x.count) c.past.ensures in (
       subst Opened (sym c.past.ensures) (opened-past w c.idle-i.result c.requires.0 (omega (arith, c.if-i-m.true, c.least-m.ensures, c.requires.0.index))),
       omega (arith, i, n, c.if-i-m.true, c.least-m.ensures),
-      c.at.ensures.result_len,
+      c.at.ensures.len,
     )
 
 pub past-requires-else-i-m : goal.past-requires-else-i-m
@@ -49,7 +49,7 @@ resume-requires c =
 pub returns-then-i-m : goal.returns-then-i-m
 returns-then-i-m c =
     let a = c.args in
-    c.meet.ensures ∙ looked-met a.b a.w a.sector.now c.least-m.ensures c.idle-i.ensures.0 (omega (arith, c.if-i-m.true)) c.past.ensures c.at.ensures.result_value
+    c.meet.ensures ∙ looked-met a.b a.w a.sector.now c.least-m.ensures c.idle-i.ensures.0 (omega (arith, c.if-i-m.true)) c.past.ensures c.at.ensures.bytes
 
 pub returns-else-i-m : goal.returns-else-i-m
 returns-else-i-m c =

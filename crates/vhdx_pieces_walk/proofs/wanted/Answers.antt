@@ -26,12 +26,12 @@ pub advance-requires-in-Data : goal.advance-requires-in-Data
 advance-requires-in-Data c = let s = subst (ReadingIn c.requires.0 c.args.w) c.in-Data.is c.requires.1 in (s.0.standing.on, omega (arith, s.1, s.0.size, c.sectors.ensures))
 
 pub returns-in-Descriptors : goal.returns-in-Descriptors
-returns-in-Descriptors c = (ap (λ (p : RingPos). p.at) c.advance.ensures.value ∙ sym (ap (wanted_in c.args.w) c.in-Descriptors.is), c.advance.ensures.at_lt_len.0)
+returns-in-Descriptors c = (ap (λ (p : RingPos). p.at) c.advance.ensures.value ∙ sym (ap (wanted_in c.args.w) c.in-Descriptors.is), c.advance.ensures.on_ring.0)
 
 pub returns-in-Data : goal.returns-in-Data
 returns-in-Data c =
     let w = c.args.w in
-    (ap (λ (p : RingPos). p.at) c.advance-in-Data.ensures.value ∙ ap (λ (k : ℕ). (advanced w.pos (k + c.in-Data.d.rank)).at) c.sectors.ensures ∙ sym (ap (wanted_in w) c.in-Data.is), c.advance-in-Data.ensures.at_lt_len.0)
+    (ap (λ (p : RingPos). p.at) c.advance-in-Data.ensures.value ∙ ap (λ (k : ℕ). (advanced w.pos (k + c.in-Data.d.rank)).at) c.sectors.ensures ∙ sym (ap (wanted_in w) c.in-Data.is), c.advance-in-Data.ensures.on_ring.0)
 
 pub returns-in-Header : goal.returns-in-Header
 returns-in-Header c = (sym (ap (wanted_in c.args.w) c.in-Header.is), (subst (ReadingIn c.requires.0 c.args.w) c.in-Header.is c.requires.1).on)

@@ -8,4 +8,4 @@ pub returns : goal.returns
 unfolding table_at
 returns c = let a = c.args in
     let parts = part-taken a.image.now a.at 65536 (omega arith) in
-    record { result_value = parts.0; result_value_2 = parts.1 }
+    record { bytes = parts.0; len = parts.1 }

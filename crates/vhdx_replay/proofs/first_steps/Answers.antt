@@ -15,15 +15,15 @@ part-requires c =
 pub forward-start-requires : goal.forward-start-requires
 forward-start-requires c =
     start-ready c.args.buffer.now c.args.length c.args.log c.args.work c.requires c.grow.new.buffer c.grow.ensures
-    c.part.result.now c.part.ensures.result_value c.from.result c.from.ensures
+    c.part.result.now c.part.ensures.bytes c.from.result c.from.ensures
 
 pub write_sectors-requires : goal.write_sectors-requires
 write_sectors-requires c =
     writable c.args.buffer.now c.args.length c.args.log c.args.work c.requires c.grow.new.buffer c.grow.ensures
-    c.part.result.now c.part.ensures.result_value c.from.result c.from.ensures c.forward-start.result c.forward-start.ensures.ready c.forward-start.ensures.result_value
+    c.part.result.now c.part.ensures.bytes c.from.result c.from.ensures c.forward-start.result c.forward-start.ensures.ready c.forward-start.ensures.rest
 
 pub returns : goal.returns
 returns c =
     c.write_sectors.ensures
     ∙ replayed c.args.buffer.now c.args.length c.args.log c.args.work c.requires c.grow.new.buffer c.grow.ensures
-    c.part.result.now c.part.ensures.result_value c.from.result c.from.ensures c.forward-start.result c.forward-start.ensures.ready c.forward-start.ensures.result_value c.args.count
+    c.part.result.now c.part.ensures.bytes c.from.result c.from.ensures c.forward-start.result c.forward-start.ensures.ready c.forward-start.ensures.rest c.args.count

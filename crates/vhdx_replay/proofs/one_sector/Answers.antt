@@ -11,33 +11,33 @@ part-requires c =
 pub nth-requires : goal.nth-requires
 nth-requires c =
     nth-ready c.args.buffer.now c.args.length c.args.log c.args.work c.requires c.args.i
-    c.part.result.now c.part.ensures.result_value c.from.result c.from.ensures
+    c.part.result.now c.part.ensures.bytes c.from.result c.from.ensures
 
 pub write-requires : goal.write-requires
 write-requires c =
     let yes = sym c.if-is_inside.true ∙ c.is_inside.ensures in (
       inside c.args.buffer.now c.args.length c.args.log c.args.work c.requires,
-      fits c.args.buffer.now c.args.length c.args.log c.args.work c.requires c.args.i c.part.result.now c.part.ensures.result_value
-          c.from.result c.from.ensures c.nth.result c.nth.ensures.result_value _ c.in-Sector.is yes,
-      held c.args.buffer.now c.args.length c.args.log c.args.work c.requires c.args.i c.part.result.now c.part.ensures.result_value
-          c.from.result c.from.ensures c.nth.result c.nth.ensures.result_value _ c.in-Sector.is c.nth.ensures.held_next,
+      fits c.args.buffer.now c.args.length c.args.log c.args.work c.requires c.args.i c.part.result.now c.part.ensures.bytes
+          c.from.result c.from.ensures c.nth.result c.nth.ensures.next _ c.in-Sector.is yes,
+      held c.args.buffer.now c.args.length c.args.log c.args.work c.requires c.args.i c.part.result.now c.part.ensures.bytes
+          c.from.result c.from.ensures c.nth.result c.nth.ensures.next _ c.in-Sector.is c.nth.ensures.held,
     )
 
 pub returns-in-End : goal.returns-in-End
 returns-in-End c =
-    let parts = no-sector c.args.buffer.now c.args.length c.args.log c.args.work c.requires c.args.i c.part.result.now c.part.ensures.result_value
-    c.from.result c.from.ensures c.nth.result c.nth.ensures.result_value c.in-End.is in
+    let parts = no-sector c.args.buffer.now c.args.length c.args.log c.args.work c.requires c.args.i c.part.result.now c.part.ensures.bytes
+    c.from.result c.from.ensures c.nth.result c.nth.ensures.next c.in-End.is in
     record { value = parts.0; buffer_after = parts.1 }
 
 pub returns-then-is_inside : goal.returns-then-is_inside
 returns-then-is_inside c =
-    let parts = written c.args.buffer.now c.args.length c.args.log c.args.work c.requires c.args.i c.part.result.now c.part.ensures.result_value
-    c.from.result c.from.ensures c.nth.result c.nth.ensures.result_value _ c.in-Sector.is (sym c.if-is_inside.true ∙ c.is_inside.ensures)
+    let parts = written c.args.buffer.now c.args.length c.args.log c.args.work c.requires c.args.i c.part.result.now c.part.ensures.bytes
+    c.from.result c.from.ensures c.nth.result c.nth.ensures.next _ c.in-Sector.is (sym c.if-is_inside.true ∙ c.is_inside.ensures)
     c.write.new.buffer c.write.ensures in
     record { value = parts.0; buffer_after = parts.1 }
 
 pub returns-else-is_inside : goal.returns-else-is_inside
 returns-else-is_inside c =
-    let parts = past_the_end c.args.buffer.now c.args.length c.args.log c.args.work c.requires c.args.i c.part.result.now c.part.ensures.result_value
-    c.from.result c.from.ensures c.nth.result c.nth.ensures.result_value _ c.in-Sector.is (sym c.if-is_inside.false ∙ c.is_inside.ensures) in
+    let parts = past_the_end c.args.buffer.now c.args.length c.args.log c.args.work c.requires c.args.i c.part.result.now c.part.ensures.bytes
+    c.from.result c.from.ensures c.nth.result c.nth.ensures.next _ c.in-Sector.is (sym c.if-is_inside.false ∙ c.is_inside.ensures) in
     record { value = parts.0; buffer_after = parts.1 }

@@ -23,7 +23,7 @@ pub loop-k-preserved : goal.loop-k-preserved
 loop-k-preserved c =
     let a = c.args in
     more a.buffer.now a.log a.start a.count c.loop-k.buffer c.loop-k.walk c.loop-k.k c.loop-k.invariant
-    c.write_next-walk.new.buffer c.write_next-walk.result c.loop-k-test.true c.write_next-walk.ensures.buffer_after c.write_next-walk.ensures.ready c.write_next-walk.ensures.result_value
+    c.write_next-walk.new.buffer c.write_next-walk.result c.loop-k-test.true c.write_next-walk.ensures.buffer_after c.write_next-walk.ensures.ready c.write_next-walk.ensures.rest
 
 pub shape_of-buffer : goal.shape_of-buffer
 shape_of-buffer c = c.loop-k.invariant.capacity

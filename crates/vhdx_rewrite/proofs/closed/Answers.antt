@@ -16,4 +16,4 @@ unfolding closed_header
 returns c =
     let u = c.rewrite-out.result in
     let is = c.bytes.ensures ∙ ap (put u 4) (c.bytes4-sum.ensures ∙ ap (le_bytes 4) c.checksum_zeroed.ensures) ∙ ap (λ (x : List ℕ). put x 4 (le_bytes 4 (new_checksum x))) c.rewrite-out.ensures.value in
-    record { value = is; result_value = ap length c.bytes.ensures ∙ put-length u 4 c.bytes4-sum.result (omega (arith, c.rewrite-out.ensures.result_value, ap length c.bytes4-sum.ensures, le-bytes-long 4 c.checksum_zeroed.result)) ∙ c.rewrite-out.ensures.result_value }
+    record { value = is; len = ap length c.bytes.ensures ∙ put-length u 4 c.bytes4-sum.result (omega (arith, c.rewrite-out.ensures.len, ap length c.bytes4-sum.ensures, le-bytes-long 4 c.checksum_zeroed.result)) ∙ c.rewrite-out.ensures.len }

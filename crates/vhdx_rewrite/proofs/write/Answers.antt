@@ -18,12 +18,12 @@ closed-out-requires c =
 
 pub bytes-requires : goal.bytes-requires
 bytes-requires c =
-    omega (arith, other_fits c.args.buffer.now c.args.slot c.requires, c.other_slot.ensures, c.closed-out.ensures.result_value)
+    omega (arith, other_fits c.args.buffer.now c.args.slot c.requires, c.other_slot.ensures, c.closed-out.ensures.len)
 
 pub returns : goal.returns
 returns c =
     record {
       buffer_after = written c.args.buffer.now c.args.slot c.requires _ refl c.args.identifier.now c.closed-out.result c.bytes.new.buffer c.other_slot.result
           c.closed-out.ensures.value c.other_slot.ensures c.bytes.ensures;
-      identifier_value = wide c.args.buffer.now c.args.slot c.requires _ refl c.args.identifier.now c.closed-out.result c.closed-out.ensures.value c.closed-out.ensures.result_value;
+      header_len = wide c.args.buffer.now c.args.slot c.requires _ refl c.args.identifier.now c.closed-out.result c.closed-out.ensures.value c.closed-out.ensures.len;
     }

@@ -6,7 +6,7 @@ use Rattle.vhdx_sequence.proofs.Turn.{begun, within, finished, turn-empty, turn-
 use Rattle.vhdx_sequence.proofs.active.Goals as goal
 
 pub loop-guid-init : goal.loop-guid-init
-loop-guid-init c = begun c.requires.0 c.requires.1 c.new-trace.ensures.result_value c.new-trace.ensures.at_value.0 c.new-trace.ensures.at_value.1
+loop-guid-init c = begun c.requires.0 c.requires.1 c.new-trace.ensures.state c.new-trace.ensures.start.0 c.new-trace.ensures.start.1
 
 pub read-requires : goal.read-requires
 read-requires c =
@@ -36,7 +36,7 @@ pub loop-guid-preserved-in-Valid : goal.loop-guid-preserved-in-Valid
 loop-guid-preserved-in-Valid c =
     -- the place is on one of two laps, and its position is one of the log's ring
     let turn = within c.loop-guid.invariant (sym c.goes_on.ensures ∙ c.loop-guid-test.true) in
-    turn-valid c.loop-guid.invariant turn.1 c.read.ensures c.in-Valid.is c.take-trace.ensures.result_value c.take-trace.ensures.placed c.advance-place.ensures
+    turn-valid c.loop-guid.invariant turn.1 c.read.ensures c.in-Valid.is c.take-trace.ensures.state c.take-trace.ensures.placed c.advance-place.ensures
 
 pub advance-place-requires-in-Empty : goal.advance-place-requires-in-Empty
 advance-place-requires-in-Empty c =

@@ -32,18 +32,18 @@ in-region region k e h = omega (arith, locator-inside region h)
 
 pub facts-requires : goal.facts-requires
 facts-requires c =
-    let h = in-region c.part.result.now c.args.regions.metadata.length c.part.ensures.result_value_2 (sym c.read.ensures ∙ ap outcome c.in-Found.is) in
+    let h = in-region c.part.result.now c.args.regions.metadata.length c.part.ensures.len (sym c.read.ensures ∙ ap outcome c.in-Found.is) in
     omega (arith, h, c.requires.0, c.well_formed)
 
 pub judge-requires : goal.judge-requires
 judge-requires c =
-    let h = in-region c.part.result.now c.args.regions.metadata.length c.part.ensures.result_value_2 (sym c.read.ensures ∙ ap outcome c.in-Found.is) in
+    let h = in-region c.part.result.now c.args.regions.metadata.length c.part.ensures.len (sym c.read.ensures ∙ ap outcome c.in-Found.is) in
     facts-in-image c.args.regions _ c.facts.ensures h c.requires.0
 
 pub returns-in-Refused : goal.returns-in-Refused
 unfolding with_regions
 returns-in-Refused c =
-    simp (c.refused.ensures, sym (ap items c.part.ensures.result_value) ∙ sym c.read.ensures ∙ ap outcome c.in-Refused.is)
+    simp (c.refused.ensures, sym (ap items c.part.ensures.bytes) ∙ sym c.read.ensures ∙ ap outcome c.in-Refused.is)
 
 pub returns-in-Found : goal.returns-in-Found
 unfolding with_regions
@@ -51,5 +51,5 @@ returns-in-Found c =
     simp (
       c.judge.ensures,
       c.facts.ensures,
-      sym (ap items c.part.ensures.result_value) ∙ sym c.read.ensures ∙ ap outcome c.in-Found.is,
+      sym (ap items c.part.ensures.bytes) ∙ sym c.read.ensures ∙ ap outcome c.in-Found.is,
     )

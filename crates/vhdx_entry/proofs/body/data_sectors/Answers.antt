@@ -4,7 +4,6 @@ use mathlib.Core.Bool.{true, false}
 use mathlib.Core.List.{List}
 use Prim.Native.Nat.{ℕ, ◌+◌, ◌%◌, ◌<◌}
 use native.Mathlib.Omega.{arith}
-use borrow.Author.Tests.{not-true, not-false}
 use Rattle.decision.specs.Bounded.{every}
 use Rattle.decision.proofs.Laws.{every_more, every-end, every-not}
 use Rattle.vhdx_entry.specs.declared.ring.RingPos.{RingPos}
@@ -13,7 +12,6 @@ use Rattle.vhdx_entry.specs.Entry.{data_sector_rule}
 use Rattle.vhdx_entry.proofs.Laws.{sector-on}
 use borrow.Author.Rules.{rules}
 use Rattle.vhdx_entry.proofs.body.data_sectors.Invariants.{all_rules}
-use mathlib.Core.Bool.{not}
 use Rattle.vhdx_entry.proofs.body.data_sectors.Goals as goal
 
 read : (log : List ℕ) (pos : RingPos) (k : ℕ) {p : RingPos} {s : List ℕ} → On log pos → k < pos.len
@@ -31,8 +29,8 @@ returns-then-not-is_data_sector c =
     let k = c.loop-k.k in
     let f = all_rules a.log.now a.pos.at a.number a.from in
     let no : f k ≡ false =
-    ap (data_sector_rule a.number) (sym (read a.log.now a.pos (a.from + k) c.loop-k.invariant.0 (omega arith) c.advance.ensures.value c.sector-s.ensures.result_value))
-    ∙ sym c.is_data_sector.ensures ∙ not-true _ (ap not c.if-not-is_data_sector.true) in
+    ap (data_sector_rule a.number) (sym (read a.log.now a.pos (a.from + k) c.loop-k.invariant.0 (omega arith) c.advance.ensures.value c.sector-s.ensures.bytes))
+    ∙ sym c.is_data_sector.ensures ∙ c.if-not-is_data_sector.true in
     sym (every-not f k a.count c.loop-k-test.true no)
 
 pub loop-k-preserved : goal.loop-k-preserved
@@ -42,8 +40,8 @@ loop-k-preserved c =
     let k = c.loop-k.k in
     let f = all_rules a.log.now a.pos.at a.number a.from in
     let yes : f k ≡ true =
-    ap (data_sector_rule a.number) (sym (read a.log.now a.pos (a.from + k) inv.0 (omega arith) c.advance.ensures.value c.sector-s.ensures.result_value))
-    ∙ sym c.is_data_sector.ensures ∙ not-false _ (ap not c.if-not-is_data_sector.false) in
+    ap (data_sector_rule a.number) (sym (read a.log.now a.pos (a.from + k) inv.0 (omega arith) c.advance.ensures.value c.sector-s.ensures.bytes))
+    ∙ sym c.is_data_sector.ensures ∙ c.if-not-is_data_sector.false in
     (inv.0, inv.1, omega arith, every_more f k inv.3 yes)
 
 pub returns : goal.returns

@@ -10,13 +10,13 @@ pub returns-then-entry_length-size : goal.returns-then-entry_length-size
 returns-then-entry_length-size c =
     let a = c.args in
     let on = c.requires.0 in
-    other_length (ring a.log.now a.pos.at) (c.entry_length.ensures ∙ in-first a.log.now a.pos.len a.pos.at on c.sector-h.ensures.result_value 8 4 (omega arith)) c.requires.4 (λ e. omega (arith, c.if-entry_length-size.true, e))
+    other_length (ring a.log.now a.pos.at) (c.entry_length.ensures ∙ in-first a.log.now a.pos.len a.pos.at on c.sector-h.ensures.bytes 8 4 (omega arith)) c.requires.4 (λ e. omega (arith, c.if-entry_length-size.true, e))
 
 pub returns-then-data_sectors : goal.returns-then-data_sectors
 returns-then-data_sectors c =
     let a = c.args in
     let on = c.requires.0 in
-    let h = c.sector-h.ensures.result_value in
+    let h = c.sector-h.ensures.bytes in
     all-but-checksum (ring a.log.now a.pos.at) (c.entry_length.ensures ∙ in-first a.log.now a.pos.len a.pos.at on h 8 4 (omega arith)) c.requires.4
     (omega (arith, c.if-entry_length-size.false)) c.requires.2 c.requires.1 c.sectors-front.ensures c.data_sectors.ensures c.if-data_sectors.true
     (c.checksum.ensures ∙ in-first a.log.now a.pos.len a.pos.at on h 4 4 (omega arith)) c.checksum-then-data_sectors.ensures
@@ -25,6 +25,6 @@ pub returns-else-data_sectors : goal.returns-else-data_sectors
 returns-else-data_sectors c =
     let a = c.args in
     let on = c.requires.0 in
-    let h = c.sector-h.ensures.result_value in
+    let h = c.sector-h.ensures.bytes in
     sector-broken (ring a.log.now a.pos.at) (c.entry_length.ensures ∙ in-first a.log.now a.pos.len a.pos.at on h 8 4 (omega arith)) c.requires.4
     (omega (arith, c.if-entry_length-size.false)) c.requires.2 c.requires.1 c.sectors-front.ensures c.data_sectors.ensures c.if-data_sectors.false

@@ -14,4 +14,4 @@ unfolding descriptor
 returns c = let a = c.args in
     let log = a.log.now in
     let from = c.offset-from.result in
-    let e : take (from + 32 - from) (drop from log) ≡ take 32 (drop from log) = ap (λ (n : ℕ). take n (drop from log)) (add-sub_cancel_left from 32) in record { result_value = e ∙ ap (λ (n : ℕ). take 32 (drop n log)) c.offset-from.ensures.value ∙ ring-bytes log a.pos (64 + 32 * a.i) 32 c.requires.0 (omega arith) (omega arith); result_len = ap length e ∙ length-take-le 32 (drop from log) (simp length-drop (omega (arith, c.offset-from.ensures.result_bound))) }
+    let e : take (from + 32 - from) (drop from log) ≡ take 32 (drop from log) = ap (λ (n : ℕ). take n (drop from log)) (add-sub_cancel_left from 32) in record { bytes = e ∙ ap (λ (n : ℕ). take 32 (drop n log)) c.offset-from.ensures.value ∙ ring-bytes log a.pos (64 + 32 * a.i) 32 c.requires.0 (omega arith) (omega arith); len = ap length e ∙ length-take-le 32 (drop from log) (simp length-drop (omega (arith, c.offset-from.ensures.sector_fits))) }

@@ -15,4 +15,4 @@ returns c =
     let start = a.pos.at * 4096 in
     let rest = drop start a.log.now in
     let e : take (start + 4096 - start) rest ≡ take 4096 rest = ap (λ (n : ℕ). take n rest) (add-sub_cancel_left start 4096) in
-    record { result_value = e; result_len = ap length e ∙ length-take-le 4096 rest (simp length-drop (omega arith)) }
+    record { bytes = e; len = ap length e ∙ length-take-le 4096 rest (simp length-drop (omega arith)) }

@@ -13,4 +13,4 @@ pub returns : goal.returns
 unfolding ratio
 returns c =
     let f = c.args.facts in
-    ap (λ (b : ℕ). 2 ^ 23 * f.logical_sector_size / b) (c.block_shift.ensures.result_value_2 (sizes f c.requires).block_kept)
+    ap (λ (b : ℕ). 2 ^ 23 * f.logical_sector_size / b) (c.block_shift.ensures.power (sizes f c.requires).block_kept)

@@ -2,4 +2,4 @@
 use Rattle.vhdx_facts.proofs.ranges.is_block_size.Goals as goal
 
 pub returns : goal.returns
-returns c = c.block_shift.ensures.result_value
+returns c = c.block_shift.ensures.is_size

@@ -14,4 +14,4 @@ returns c =
     let a = c.args in
     let rest = drop a.at a.m.now in
     let e : take (a.at + 4096 - a.at) rest ≡ take 4096 rest = ap (λ (n : ℕ). take n rest) (add-sub_cancel_left a.at 4096) in
-    record { result_value = e; result_len = ap length e ∙ length-take-le 4096 rest (simp length-drop (omega arith)) }
+    record { bytes = e; len = ap length e ∙ length-take-le 4096 rest (simp length-drop (omega arith)) }

@@ -22,7 +22,7 @@ pub returns-then-length-flushed_file_offset : goal.returns-then-length-flushed_f
 returns-then-length-flushed_file_offset c =
     let a = c.args in
     let log = a.log.now in
-    let says = head-says log a.found.start a.found.more c.head.result c.sector-head.result.now c.head.ensures.0 c.head.ensures.1 c.sector-head.ensures.result_value in
+    let says = head-says log a.found.start a.found.more c.head.result c.sector-head.result.now c.head.ensures.0 c.head.ensures.1 c.sector-head.ensures.bytes in
     let flushed = c.flushed_file_offset.ensures ∙ says.0 in
     let e : Extent = record { offset = a.log_offset; length = length log } in
     refusal log 6 (work e (entries_from log a.found.start a.found.more) a.length a.capacity)
@@ -36,7 +36,7 @@ pub returns-then-all : goal.returns-then-all
 returns-then-all c =
     let a = c.args in
     let log = a.log.now in
-    let says = head-says log a.found.start a.found.more c.head.result c.sector-head.result.now c.head.ensures.0 c.head.ensures.1 c.sector-head.ensures.result_value in
+    let says = head-says log a.found.start a.found.more c.head.result c.sector-head.result.now c.head.ensures.0 c.head.ensures.1 c.sector-head.ensures.bytes in
     let flushed = c.flushed_file_offset.ensures ∙ says.0 in
     let e : Extent = record { offset = a.log_offset; length = length log } in
     lies-inside log a.found.start a.found.more c.requires e a.length a.capacity (omega arith) c.all-all.result c.all-all.ensures c.if-all.true
@@ -45,7 +45,7 @@ pub returns-then-is_within : goal.returns-then-is_within
 returns-then-is_within c =
     let a = c.args in
     let log = a.log.now in
-    let says = head-says log a.found.start a.found.more c.head.result c.sector-head.result.now c.head.ensures.0 c.head.ensures.1 c.sector-head.ensures.result_value in
+    let says = head-says log a.found.start a.found.more c.head.result c.sector-head.result.now c.head.ensures.0 c.head.ensures.1 c.sector-head.ensures.bytes in
     let flushed = c.flushed_file_offset.ensures ∙ says.0 in
     let e : Extent = record { offset = a.log_offset; length = length log } in
     let final = c.greater-length.ensures ∙ ap (max a.length) c.greater.ensures in
@@ -61,7 +61,7 @@ pub returns-else-is_within : goal.returns-else-is_within
 returns-else-is_within c =
     let a = c.args in
     let log = a.log.now in
-    let says = head-says log a.found.start a.found.more c.head.result c.sector-head.result.now c.head.ensures.0 c.head.ensures.1 c.sector-head.ensures.result_value in
+    let says = head-says log a.found.start a.found.more c.head.result c.sector-head.result.now c.head.ensures.0 c.head.ensures.1 c.sector-head.ensures.bytes in
     let flushed = c.flushed_file_offset.ensures ∙ says.0 in
     let e : Extent = record { offset = a.log_offset; length = length log } in
     let final = c.greater-length.ensures ∙ ap (max a.length) c.greater.ensures in

@@ -17,8 +17,8 @@ overflow_mul-i c =
 
 pub u64_at-requires : goal.u64_at-requires
 u64_at-requires c =
-    omega (arith, c.requires.1, c.part.ensures.result_value_2, bat-long-enough (length c.args.image.now) c.args.facts c.requires.0)
+    omega (arith, c.requires.1, c.part.ensures.len, bat-long-enough (length c.args.image.now) c.args.facts c.requires.0)
 
 pub returns : goal.returns
 unfolding bat_entry
-returns c = simp (c.u64_at.ensures, c.part.ensures.result_value)
+returns c = simp (c.u64_at.ensures, c.part.ensures.bytes)

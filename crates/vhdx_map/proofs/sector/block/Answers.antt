@@ -13,4 +13,4 @@ pub returns : goal.returns
 unfolding block_of
 returns c =
     let a = c.args in
-    ap (λ (b : ℕ). a.sector * a.facts.logical_sector_size / b) (c.block_shift.ensures.result_value_2 (sizes a.facts c.requires.0).block_kept)
+    ap (λ (b : ℕ). a.sector * a.facts.logical_sector_size / b) (c.block_shift.ensures.power (sizes a.facts c.requires.0).block_kept)

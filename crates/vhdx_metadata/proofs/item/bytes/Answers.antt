@@ -18,4 +18,4 @@ part-requires c =
 pub returns : goal.returns
 unfolding item_of
 returns c =
-    let e = c.extent.ensures in record { result_value = c.part.ensures.result_value ∙ ap (part c.args.region.now) e; result_value_2 = c.part.ensures.result_value_2 ∙ ap (λ (x : Extent). x.length) e ∙ extent-fixed c.args.region.now c.args.row c.requires.2 c.requires.3 }
+    let e = c.extent.ensures in record { bytes = c.part.ensures.bytes ∙ ap (part c.args.region.now) e; len = c.part.ensures.len ∙ ap (λ (x : Extent). x.length) e ∙ extent-fixed c.args.region.now c.args.row c.requires.2 c.requires.3 }

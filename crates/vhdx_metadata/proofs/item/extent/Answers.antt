@@ -16,4 +16,4 @@ returns-in-Nothing c =
 pub returns-in-At : goal.returns-in-At
 unfolding extent_of
 returns-in-At c =
-    simp (c.extent.ensures, c.entry.ensures.result_value, ← c.find.ensures, c.in-At.is)
+    simp (c.extent.ensures, c.entry.ensures.bytes, ← c.find.ensures, c.in-At.is)

@@ -2,13 +2,10 @@
 use mathlib.Core.Path.{◌≡◌, sym, ◌∙◌}
 use mathlib.Core.Bool.{true, false}
 use native.Mathlib.Omega.{arith}
-use borrow.Author.Tests.{not-true, not-false}
 use Rattle.decision.specs.Bounded.{every}
 use Rattle.decision.proofs.Laws.{every_more, every-end, every-not}
 use Rattle.vhdx_metadata.specs.Items.{is_there}
 use borrow.Author.Rules.{rules}
-use mathlib.Core.Path.{ap}
-use mathlib.Core.Bool.{not}
 use Rattle.vhdx_metadata.proofs.item.five_are_there.Goals as goal
 
 pub loop-row-init : goal.loop-row-init
@@ -18,13 +15,13 @@ loop-row-init c = search rules
 pub returns-then-not-is_there : goal.returns-then-not-is_there
 returns-then-not-is_there c =
     let region = c.args.region.now in
-    let no : is_there region c.loop-row.row ≡ false = sym c.is_there.ensures ∙ not-true _ (ap not c.if-not-is_there.true) in
+    let no : is_there region c.loop-row.row ≡ false = sym c.is_there.ensures ∙ c.if-not-is_there.true in
     sym (every-not (is_there region) c.loop-row.row 5 (omega arith) no)
 
 pub loop-row-preserved : goal.loop-row-preserved
 loop-row-preserved c =
     let region = c.args.region.now in
-    let yes : is_there region c.loop-row.row ≡ true = sym c.is_there.ensures ∙ not-false _ (ap not c.if-not-is_there.false) in
+    let yes : is_there region c.loop-row.row ≡ true = sym c.is_there.ensures ∙ c.if-not-is_there.false in
     (omega arith, c.loop-row.invariant.1, omega arith, every_more (is_there region) c.loop-row.row c.loop-row.invariant.3 yes)
 
 pub returns : goal.returns

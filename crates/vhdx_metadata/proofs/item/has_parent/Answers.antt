@@ -6,8 +6,8 @@ use Rattle.vhdx_metadata.proofs.item.has_parent.Goals as goal
 
 pub u32_at-requires : goal.u32_at-requires
 unfolding known_lengths
-u32_at-requires c = omega (arith, c.bytes.ensures.result_value_2)
+u32_at-requires c = omega (arith, c.bytes.ensures.len)
 
 pub returns : goal.returns
 unfolding has_parent_of
-returns c = simp (c.u32_at.ensures, c.bytes.ensures.result_value)
+returns c = simp (c.u32_at.ensures, c.bytes.ensures.bytes)

@@ -16,4 +16,4 @@ returns-in-Nothing c =
 pub returns-in-At : goal.returns-in-At
 unfolding is_there
 returns-in-At c =
-    simp (c.has_its_length.ensures, c.extent-item.ensures, c.entry.ensures.result_value, ← c.find.ensures, c.in-At.is)
+    simp (c.has_its_length.ensures, c.extent-item.ensures, c.entry.ensures.bytes, ← c.find.ensures, c.in-At.is)

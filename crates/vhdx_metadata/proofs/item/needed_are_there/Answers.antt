@@ -1,12 +1,9 @@
 -- `vhdx_metadata::item::needed_are_there` meets its contract.
 use mathlib.Core.Path.{sym, ◌∙◌}
 use native.Mathlib.Omega.{arith}
-use borrow.Author.Tests.{not-true, not-false}
 use Rattle.decision.proofs.Laws.{every-at}
 use Rattle.vhdx_metadata.specs.Items.{is_there, needed_rule}
 use Rattle.vhdx_metadata.proofs.Laws.{table_kept}
-use mathlib.Core.Path.{ap}
-use mathlib.Core.Bool.{not}
 use Rattle.vhdx_metadata.proofs.item.needed_are_there.Goals as goal
 
 pub five_are_there-requires : goal.five_are_there-requires
@@ -15,11 +12,11 @@ five_are_there-requires c =
 
 pub returns-then-not-five_are_there : goal.returns-then-not-five_are_there
 unfolding needed_rule
-returns-then-not-five_are_there c = simp (sym c.five_are_there.ensures ∙ not-true _ (ap not c.if-not-five_are_there.true))
+returns-then-not-five_are_there c = simp (sym c.five_are_there.ensures ∙ c.if-not-five_are_there.true)
 
 pub has_parent-requires : goal.has_parent-requires
 has_parent-requires c =
-    let five = sym c.five_are_there.ensures ∙ not-false _ (ap not c.if-not-five_are_there.false) in
+    let five = sym c.five_are_there.ensures ∙ c.if-not-five_are_there.false in
     (omega arith, c.requires.1, every-at (is_there c.args.region.now) 5 0 five (omega arith))
 
 pub is_there-requires : goal.is_there-requires
@@ -32,7 +29,7 @@ returns-then-has_parent c =
     simp (
       c.is_there.ensures,
       sym c.has_parent.ensures ∙ c.if-has_parent.true,
-      sym c.five_are_there.ensures ∙ not-false _ (ap not c.if-not-five_are_there.false),
+      sym c.five_are_there.ensures ∙ c.if-not-five_are_there.false,
     )
 
 pub returns-else-has_parent : goal.returns-else-has_parent
@@ -40,5 +37,5 @@ unfolding needed_rule
 returns-else-has_parent c =
     simp (
       sym c.has_parent.ensures ∙ c.if-has_parent.false,
-      sym c.five_are_there.ensures ∙ not-false _ (ap not c.if-not-five_are_there.false),
+      sym c.five_are_there.ensures ∙ c.if-not-five_are_there.false,
     )

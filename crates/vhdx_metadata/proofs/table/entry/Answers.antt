@@ -9,4 +9,4 @@ pub returns : goal.returns
 unfolding entry
 returns c = let a = c.args in
     let parts = part-taken a.region.now (32 + 32 * a.i) 32 (omega arith) in
-    record { result_value = parts.0; result_value_2 = parts.1 }
+    record { bytes = parts.0; len = parts.1 }

@@ -18,13 +18,13 @@ pub returns-then-is_item : goal.returns-then-is_item
 unfolding entry_of
 returns-then-is_item c =
     let f = is_row_of c.args.region.now c.args.row in
-    let hit : f c.loop-i.i ≡ true = simp (← c.entry.ensures.result_value) (sym c.is_item.ensures ∙ c.if-is_item.true) in
+    let hit : f c.loop-i.i ≡ true = simp (← c.entry.ensures.bytes) (sym c.is_item.ensures ∙ c.if-is_item.true) in
     sym (first-hit f c.loop-i.i (entry_count c.args.region.now) (omega arith) c.loop-i.invariant.5 hit)
 
 pub loop-i-preserved : goal.loop-i-preserved
 loop-i-preserved c =
     let f = is_row_of c.args.region.now c.args.row in
-    let miss : f c.loop-i.i ≡ false = simp (← c.entry.ensures.result_value) (sym c.is_item.ensures ∙ c.if-is_item.false) in
+    let miss : f c.loop-i.i ≡ false = simp (← c.entry.ensures.bytes) (sym c.is_item.ensures ∙ c.if-is_item.false) in
     (omega arith, omega arith, c.loop-i.invariant.2, omega arith, omega arith, first_more f c.loop-i.i c.loop-i.invariant.5 miss)
 
 pub returns : goal.returns

@@ -12,4 +12,4 @@ returns c =
     let s = c.args.s.now in
     let from = c.args.start in
     let e : take (from + 32 - from) (drop from s) ≡ take 32 (drop from s) = ap (λ (n : ℕ). take n (drop from s)) (add-sub_cancel_left from 32) in
-    record { result_value = e; result_len = ap length e ∙ length-take-le 32 (drop from s) (simp length-drop (omega arith)) }
+    record { bytes = e; len = ap length e ∙ length-take-le 32 (drop from s) (simp length-drop (omega arith)) }

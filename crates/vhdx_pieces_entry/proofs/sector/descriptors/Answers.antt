@@ -6,14 +6,12 @@ use mathlib.Core.Option.{Option, some}
 use Prim.Native.Nat.{ℕ, ◌+◌, ◌≤◌}
 use native.Mathlib.Omega.{arith}
 use native.Mathlib.Numerals.{add-one}
-use borrow.Author.Tests.{not-true, not-false}
 use Rattle.decision.specs.Bounded.{every, only_if}
 use Rattle.decision.proofs.Laws.{every_more, every-not}
 use Rattle.vhdx_entry.specs.Entry.{descriptor_rule, is_data_descriptor}
 use Rattle.vhdx_pieces_entry.specs.Sector.{descriptor_in, passes, data_in}
 use borrow.Author.Rules.{rules}
 use Rattle.vhdx_pieces_entry.proofs.sector.descriptors.Invariants.{all_rules}
-use mathlib.Core.Bool.{not}
 use Rattle.vhdx_pieces_entry.proofs.sector.descriptors.Goals as goal
 
 at_most_one : (b : Bool) {x y i : ℕ} → y ≡ x + cond b 1 0 → x ≤ i → y ≤ i + 1
@@ -35,7 +33,7 @@ returns-then-not-keeps_rule c =
     let i = c.loop-i.i in
     let f = all_rules a.s.now a.from a.number in
     let no : f i ≡ false =
-    ap (descriptor_rule a.number) (sym c.at-d.ensures.result_value) ∙ sym c.keeps_rule.ensures ∙ not-true _ (ap not c.if-not-keeps_rule.true) in
+    ap (descriptor_rule a.number) (sym c.at-d.ensures.bytes) ∙ sym c.keeps_rule.ensures ∙ c.if-not-keeps_rule.true in
     sym (ap (λ (x : Bool). only_if {A = ℕ} x (data_in a.s.now a.from a.m)) (every-not f i a.m (omega (arith, c.loop-i-test.true)) no))
 
 pub loop-i-preserved : goal.loop-i-preserved
@@ -44,9 +42,9 @@ loop-i-preserved c =
     let inv = c.loop-i.invariant in
     let a = c.args in
     let i = c.loop-i.i in
-    let same = c.at-d.ensures.result_value in
+    let same = c.at-d.ensures.bytes in
     let yes : all_rules a.s.now a.from a.number i ≡ true =
-    ap (descriptor_rule a.number) (sym same) ∙ sym c.keeps_rule.ensures ∙ not-false _ (ap not c.if-not-keeps_rule.false) in
+    ap (descriptor_rule a.number) (sym same) ∙ sym c.keeps_rule.ensures ∙ c.if-not-keeps_rule.false in
     let more = c.counted-found.ensures ∙ ap (λ (d : List ℕ). c.loop-i.found + cond (is_data_descriptor d) 1 0) same in (
       inv.0,
       inv.1,

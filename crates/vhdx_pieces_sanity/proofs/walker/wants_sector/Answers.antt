@@ -1,18 +1,15 @@
 -- `vhdx_pieces_sanity::walker::wants_sector` meets its contract.
 use mathlib.Core.Path.{sym, ◌∙◌}
-use borrow.Author.Tests.{not-true, not-false}
 use Rattle.vhdx_pieces_sanity.specs.Sanity.{wants}
 use Rattle.vhdx_pieces_sanity.proofs.Decided.{walker-opened}
-use mathlib.Core.Path.{ap}
-use mathlib.Core.Bool.{not}
 use Rattle.vhdx_pieces_sanity.proofs.walker.wants_sector.Goals as goal
 
 pub returns-then-not-is_entered : goal.returns-then-not-is_entered
 unfolding wants
-returns-then-not-is_entered c = rw (c.in-Data.is, sym c.is_entered-in-Data.ensures ∙ not-true _ (ap not c.if-not-is_entered.true))
+returns-then-not-is_entered c = rw (c.in-Data.is, sym c.is_entered-in-Data.ensures ∙ c.if-not-is_entered.true)
 
 pub holds_data-requires : goal.holds_data-requires
-holds_data-requires c = (walker-opened c.args.w).sound (sym c.is_entered-in-Data.ensures ∙ not-false _ (ap not c.if-not-is_entered.false))
+holds_data-requires c = (walker-opened c.args.w).sound (sym c.is_entered-in-Data.ensures ∙ c.if-not-is_entered.false)
 
 pub returns-in-Header : goal.returns-in-Header
 unfolding wants
@@ -24,7 +21,7 @@ returns-in-Descriptors c = rw (c.in-Descriptors.is, c.is_entered.ensures)
 
 pub returns-else-not-is_entered : goal.returns-else-not-is_entered
 unfolding wants
-returns-else-not-is_entered c = rw (c.in-Data.is, c.is_allowed.ensures, c.holds_data.ensures, sym c.is_entered-in-Data.ensures ∙ not-false _ (ap not c.if-not-is_entered.false))
+returns-else-not-is_entered c = rw (c.in-Data.is, c.is_allowed.ensures, c.holds_data.ensures, sym c.is_entered-in-Data.ensures ∙ c.if-not-is_entered.false)
 
 pub returns-in-Sector : goal.returns-in-Sector
 unfolding wants

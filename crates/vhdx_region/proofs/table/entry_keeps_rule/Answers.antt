@@ -6,9 +6,9 @@ use Rattle.vhdx_region.proofs.table.entry_keeps_rule.Goals as goal
 pub returns-then-keeps_rule : goal.returns-then-keeps_rule
 unfolding entry_rule
 returns-then-keeps_rule c =
-    simp (c.stands_apart.ensures, ← c.entry.ensures.result_value, sym c.keeps_rule.ensures ∙ c.if-keeps_rule.true)
+    simp (c.stands_apart.ensures, ← c.entry.ensures.bytes, sym c.keeps_rule.ensures ∙ c.if-keeps_rule.true)
 
 pub returns-else-keeps_rule : goal.returns-else-keeps_rule
 unfolding entry_rule
 returns-else-keeps_rule c =
-    simp (← c.entry.ensures.result_value, sym c.keeps_rule.ensures ∙ c.if-keeps_rule.false)
+    simp (← c.entry.ensures.bytes, sym c.keeps_rule.ensures ∙ c.if-keeps_rule.false)

@@ -33,7 +33,7 @@ returns-then-is_row c =
     let e = c.entry.ensures in
     let f = is_of a.t.now a.row in
     let hit : f c.loop-i.i ≡ true =
-    asks a.t.now a.row c.loop-i.i c.regions-known.ensures e.result_value e.result_value_2 c.guid_at.ensures c.is_row.ensures ∙ c.if-is_row.true in
+    asks a.t.now a.row c.loop-i.i c.regions-known.ensures e.bytes e.len c.guid_at.ensures c.is_row.ensures ∙ c.if-is_row.true in
     sym (first-hit f c.loop-i.i (entry_count a.t.now) (omega arith) c.loop-i.invariant.1 hit)
 
 pub loop-i-preserved : goal.loop-i-preserved
@@ -42,7 +42,7 @@ loop-i-preserved c =
     let e = c.entry.ensures in
     let f = is_of a.t.now a.row in
     let miss : f c.loop-i.i ≡ false =
-    asks a.t.now a.row c.loop-i.i c.regions-known.ensures e.result_value e.result_value_2 c.guid_at.ensures c.is_row.ensures ∙ c.if-is_row.false in
+    asks a.t.now a.row c.loop-i.i c.regions-known.ensures e.bytes e.len c.guid_at.ensures c.is_row.ensures ∙ c.if-is_row.false in
     (omega arith, first_more f c.loop-i.i c.loop-i.invariant.1 miss)
 
 pub returns : goal.returns

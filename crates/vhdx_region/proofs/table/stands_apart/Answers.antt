@@ -4,14 +4,11 @@ use mathlib.Core.Bool.{Bool, true, false}
 use mathlib.Core.List.{List}
 use Prim.Native.Nat.{ℕ}
 use native.Mathlib.Omega.{arith}
-use borrow.Author.Tests.{not-true, not-false}
 use Rattle.decision.specs.Bounded.{every}
 use Rattle.decision.proofs.Laws.{every_more, every-end, every-not}
 use Rattle.vhdx_region.specs.Region.{entry, pair_rule}
 use borrow.Author.Rules.{rules}
 use Rattle.vhdx_region.proofs.table.stands_apart.Invariants.{rule}
-use mathlib.Core.Path.{ap}
-use mathlib.Core.Bool.{not}
 use Rattle.vhdx_region.proofs.table.stands_apart.Goals as goal
 
 -- what the code asks of two entries d and e
@@ -27,7 +24,7 @@ returns-then-not-are_apart c =
     let a = c.args in
     let f = rule a.t.now a.i in
     let no : f c.loop-j.j ≡ false =
-    asks a.t.now a.i c.loop-j.j c.entry.ensures.result_value c.entry-e.ensures.result_value c.are_apart.ensures ∙ not-true _ (ap not c.if-not-are_apart.true) in
+    asks a.t.now a.i c.loop-j.j c.entry.ensures.bytes c.entry-e.ensures.bytes c.are_apart.ensures ∙ c.if-not-are_apart.true in
     sym (every-not f c.loop-j.j a.i (omega arith) no)
 
 pub loop-j-preserved : goal.loop-j-preserved
@@ -35,7 +32,7 @@ loop-j-preserved c =
     let a = c.args in
     let f = rule a.t.now a.i in
     let yes : f c.loop-j.j ≡ true =
-    asks a.t.now a.i c.loop-j.j c.entry.ensures.result_value c.entry-e.ensures.result_value c.are_apart.ensures ∙ not-false _ (ap not c.if-not-are_apart.false) in
+    asks a.t.now a.i c.loop-j.j c.entry.ensures.bytes c.entry-e.ensures.bytes c.are_apart.ensures ∙ c.if-not-are_apart.false in
     (omega arith, every_more f c.loop-j.j c.loop-j.invariant.1 yes)
 
 pub returns : goal.returns

@@ -21,7 +21,7 @@ returns-in-Nothing c =
       from-ready a.log.now c.loop-walk.walk.cursor c.loop-walk.invariant.0.placed c.loop-walk.invariant.0.bounded,
       (all-passed a.log.now c.loop-walk.walk c.loop-walk.invariant.1 c.loop-walk-test.true none, settled-end a.log.now (walk_from c.loop-walk.walk.cursor) (left-from a.log.now c.loop-walk.walk.cursor ∙ none)),
     ) in
-    record { ready = parts.0; result_value = parts.1 }
+    record { ready = parts.0; rest = parts.1 }
 
 pub loop-walk-smaller : goal.loop-walk-smaller
 loop-walk-smaller c =
@@ -37,4 +37,4 @@ loop-walk-preserved c =
 pub returns : goal.returns
 returns c =
     let a = c.args in
-    record { ready = c.within.ensures.ready; result_value = (c.within.ensures.result_value.0 ∙ c.loop-walk.invariant.1, settled-sector a.log.now c.within.result c.within.ensures.result_value.1) }
+    record { ready = c.within.ensures.ready; rest = (c.within.ensures.rest.0 ∙ c.loop-walk.invariant.1, settled-sector a.log.now c.within.result c.within.ensures.rest.1) }

@@ -10,4 +10,4 @@ use Rattle.vhdx_walk.proofs.Walk.nth.Goals as goal
 pub returns : goal.returns
 returns c =
     let a = c.args in
-    record { result_value = c.current.ensures.result_value ∙ ap (λ (l : List Sector). get_elem? l 0) c.forward-there.ensures.result_value.0 ∙ nth_drop (sectors_left a.log.now a.self) a.k; held_next = c.current.ensures.held_next }
+    record { next = c.current.ensures.next ∙ ap (λ (l : List Sector). get_elem? l 0) c.forward-there.ensures.rest.0 ∙ nth_drop (sectors_left a.log.now a.self) a.k; held = c.current.ensures.held }

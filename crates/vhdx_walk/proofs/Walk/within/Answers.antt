@@ -10,4 +10,4 @@ overflow_add-result c = let pre = c.requires in let e = pre.0.ends (omega arith)
 pub returns : goal.returns
 returns c =
     let a = c.args in
-    record { ready = within-ready a.log.now a.self a.j c.requires.1 c.requires.0; result_value = (within-left a.log.now a.self a.j c.requires.1 refl, omega (arith, c.requires.1)) }
+    record { ready = within-ready a.log.now a.self a.j c.requires.1 c.requires.0; rest = (within-left a.log.now a.self a.j c.requires.1 refl, omega (arith, c.requires.1)) }

@@ -11,7 +11,7 @@ at_path : (a b n : ℕ) → a ≡ b → ◌≡◌ {A = RingPos} (record { at = a
 at_path a b n p = ap {B = RingPos} (λ (x : ℕ). record { at = x; len = n }) p
 
 pub returns-then-by-len : goal.returns-then-by-len
-returns-then-by-len c = record { value = at_path _ _ _ (sym (mod-eq_of_lt (omega arith))); at_lt_len = (omega arith, refl) }
+returns-then-by-len c = record { value = at_path _ _ _ (sym (mod-eq_of_lt (omega arith))); on_ring = (omega arith, refl) }
 
 pub returns-else-by-len : goal.returns-else-by-len
-returns-else-by-len c = record { value = at_path _ _ _ (sym (mod-round _ _ _ (omega arith) (omega arith))); at_lt_len = (omega arith, refl) }
+returns-else-by-len c = record { value = at_path _ _ _ (sym (mod-round _ _ _ (omega arith) (omega arith))); on_ring = (omega arith, refl) }

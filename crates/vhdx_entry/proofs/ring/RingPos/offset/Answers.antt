@@ -8,4 +8,4 @@ use Rattle.vhdx_entry.proofs.ring.RingPos.offset.Goals as goal
 pub returns : goal.returns
 returns c =
     let n = c.args.n in
-    record { value = ap (λ (p : RingPos). p.at * 4096 + n % 4096) c.advance.ensures.value; result_bound = omega (arith, c.advance.ensures.at_lt_len) }
+    record { value = ap (λ (p : RingPos). p.at * 4096 + n % 4096) c.advance.ensures.value; sector_fits = omega (arith, c.advance.ensures.on_ring) }

@@ -18,9 +18,9 @@ made tail n u st e start a b d f = simp (f, d, a, b)
 pub headed-requires : goal.headed-requires
 headed-requires c =
     let p = c.requires.1 in
-    (c.requires.0, omega (arith, c.run_from-start.ensures.count_value, p.run), omega (arith, c.run_from-start.ensures.placed.1, p.tail), omega (arith, c.run_from-start.ensures.placed.1, p.few), c.run_from-start.ensures.placed.0 ∙ ap (λ (n : ℕ). c.run_from-start.result.count % n) (sym c.run_from-start.ensures.placed.1))
+    (c.requires.0, omega (arith, c.run_from-start.ensures.count, p.run), omega (arith, c.run_from-start.ensures.placed.1, p.tail), omega (arith, c.run_from-start.ensures.placed.1, p.few), c.run_from-start.ensures.placed.0 ∙ ap (λ (n : ℕ). c.run_from-start.result.count % n) (sym c.run_from-start.ensures.placed.1))
 
 pub returns : goal.returns
 returns c =
     let a = c.args in
-    record { result_value = made a.tail.now a.place.pos.len a.place.count (state_of a.self) a.e c.run_from-start.result c.run_from-start.ensures.count_value c.run_from-start.ensures.placed.1 c.headed.ensures c.better.ensures; placed = c.run_from-start.ensures.placed }
+    record { state = made a.tail.now a.place.pos.len a.place.count (state_of a.self) a.e c.run_from-start.result c.run_from-start.ensures.count c.run_from-start.ensures.placed.1 c.headed.ensures c.better.ensures; placed = c.run_from-start.ensures.placed }

@@ -22,7 +22,7 @@ descriptor-requires c =
       c.requires,
       more,
       c.descriptor_count-count.ensures.value
-          ∙ in-first log a.self.pos.len a.self.pos.at (stands log a.self c.requires more).on c.sector.ensures.result_value 24 4 (omega arith),
+          ∙ in-first log a.self.pos.len a.self.pos.at (stands log a.self c.requires more).on c.sector.ensures.bytes 24 4 (omega arith),
       c.descriptor_count-count.ensures.upper_bound,
       c.if-self-count.true,
     )
@@ -44,5 +44,5 @@ returns c =
     let more : 0 < a.self.left = omega arith in
     let count : c.descriptor_count-count.result ≡ descriptor_count (ring log a.self.pos.at) =
     c.descriptor_count-count.ensures.value
-    ∙ in-first log a.self.pos.len a.self.pos.at (stands log a.self c.requires more).on c.sector.ensures.result_value 24 4 (omega arith) in
+    ∙ in-first log a.self.pos.len a.self.pos.at (stands log a.self c.requires more).on c.sector.ensures.bytes 24 4 (omega arith) in
     to-entry log a.self c.requires more c.next.result c.next.ensures.0 c.next.ensures.1 (omega arith)
