@@ -2,11 +2,11 @@
 -- would have done before.
 -- Assumes nothing.
 use Rattle.std.specs.Prelude.{cond, List, ℕ, nat_le, length}
-use Rattle.decision.specs.Refusal.{refused}
+use Rattle.decision.specs.Refusal.{Outcome, refused}
 use Rattle.extent.specs.declared.Extent.{Extent}
 use Rattle.extent.specs.Extent.{mib}
-use Rattle.vhdx_tables.specs.declared.Reading.{Reading}
-use Rattle.vhdx_tables.specs.Tables.{tables, reading}
+use Rattle.vhdx_facts.specs.declared.Facts.{Facts}
+use Rattle.vhdx_tables.specs.Tables.{tables}
 
-unfoldable pub reading_of : List ℕ → Extent → Reading
-reading_of image log = reading (cond (nat_le mib (length image)) (tables image log) (refused 1))
+unfoldable pub reading_of : List ℕ → Extent → Outcome Facts
+reading_of image log = cond (nat_le mib (length image)) (tables image log) (refused 1)

@@ -12,8 +12,6 @@ ghost use Rattle.vhdx_log.specs.Plan.{plan};
 ghost use Rattle.vhdx_log.specs.Answers.{log_of};
 ghost use Rattle.bench_api.specs.Sectors.{Answered};
 
-use vhdx_log::Answer;
-use vhdx_walk::Next;
 use vhdx_walk::run::Source;
 
 #[unsafe(no_mangle)]
@@ -34,27 +32,20 @@ pub extern "C" fn shrunvaki_bench_sector(
 ) -> u64
     ensures { Answered (log_of buffer.now length) (get_elem? (sectors_planned (plan buffer.now length)) k) result answer.old answer.new }
 {
-    match vhdx_log::plan(buffer, length) {
-        Answer::Refused(_) => 0,
-        Answer::Apply(work) => {
-            match vhdx_walk::from(work.cursor).nth(vhdx_log::log(buffer, length), k) {
-                Next::End => 0,
-                Next::Sector(sector) => {
-                    answer[0] = sector.offset;
-                    let source = sector.source;
-                    match source {
-                        Source::Zeros => 1,
-                        Source::Data {
-                            descriptor,
-                            sector: place,
-                        } => {
-                            answer[1] = descriptor as u64;
-                            answer[2] = place as u64;
-                            2
-                        }
-                    }
-                }
-            }
+    let Ok(work) = vhdx_log::plan(buffer, length) else {
+        return 0;
+    };
+    let walk = vhdx_walk::from(work.cursor);
+    let Some(found) = walk.nth(vhdx_log::log(buffer, length), k) else {
+        return 0;
+    };
+    answer[0] = found.offset;
+    match found.source {
+        Source::Zeros => 1,
+        Source::Data { descriptor, sector } => {
+            answer[1] = descriptor as u64;
+            answer[2] = sector as u64;
+            2
         }
     }
 }

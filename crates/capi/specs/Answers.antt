@@ -3,12 +3,13 @@
 use Rattle.std.specs.Prelude.{cond, List, [], ◌∷◌, ◌++◌, ◌≡◌, ℕ, nat_eq, length, replicate}
 use Rattle.decision.specs.Refusal.{Outcome}
 use Rattle.extent.specs.declared.Extent.{Extent}
-use Rattle.vhdx_close_steps.specs.declared.Closed.{Closed}
-use Rattle.vhdx_map.specs.Lookup.{Location, figures}
-use Rattle.vhdx.specs.declared.Attached.{Attached}
-use Rattle.vhdx.specs.declared.Planned.{Planned}
+use Rattle.vhdx_close_steps.specs.Close.{Closed}
+use Rattle.vhdx_map.specs.declared.Place.{Place}
+use Rattle.vhdx_map.specs.Lookup.{figures}
+use Rattle.vhdx.specs.Attach.{Attached}
+use Rattle.vhdx.specs.Plan.{Planned}
 use Rattle.vhdx_pieces_calls.specs.declared.Request.{Request}
-use Rattle.vhdx_steps.specs.declared.Stepped.{Stepped}
+use Rattle.vhdx_steps.specs.Stepped.{Stepped}
 use Rattle.vhdx_slots.specs.Slots.{in_slots, numbers, facts_from}
 
 -- slots 16 to 31 are zero
@@ -44,7 +45,7 @@ abbrev pub refused_by : Request → ℕ
 refused_by r = cond (nat_eq r.kind 0) r.first 0
 
 -- both slots: the kind of answer, and its number
-abbrev pub figures_in : Outcome Location → List ℕ → List ℕ
+abbrev pub figures_in : Outcome Place → List ℕ → List ℕ
 figures_in o answer = in_slots 0 ((figures o).0 ∷ (figures o).1 ∷ []) answer
 
 -- both slots: offset, length

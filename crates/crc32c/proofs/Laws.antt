@@ -5,14 +5,13 @@ use mathlib.Core.List.{List, [], ◌∷◌, ◌++◌, append_assoc}
 use Prim.Native.Nat.{ℕ, zero, suc, ◌+◌, ◌-◌, ◌*◌, ◌/◌, ◌%◌, ◌^◌, ◌<◌, ◌≤◌, min}
 use native.Mathlib.Decide.{dec_le}
 use native.Mathlib.Nat.{mod-lt, mul-one, zero-add, suc-add, min-eq_left}
-use native.Mathlib.Numerals.{add-one}
 use native.Mathlib.Omega.{arith}
 use lib.Arith.{bin_ind}
 use lib.Bits.{bit_xor, differ, xor_step, xor_comm, xor_shr, xor_mod, xor_shifted, shifted_half, shifted_even}
 use lib.Dec.{lit<}
-use lib.ListN.{length, take, drop, get_or, length-drop, drop_of_length-le}
+use lib.ListN.{length, take, drop, length-drop, drop_of_length-le}
 use lib.Pow.{split}
-use lib.Seq.{drop-cons, take_all, take-length, take-append-le, drop-append-le}
+use lib.Seq.{take_all, take-length, take-append-le, drop-append-le}
 use Rattle.crc32c.specs.Crc.{poly, ones, bit, bits, byte, updates, zeroed}
 
 -- ---- the polynomial is Castagnoli's 0x1edc6f41 with its 32 bits in the other order
@@ -125,15 +124,6 @@ unfolding updates
 updates-append s [] b = refl
 updates-append s (x ∷ a) b = updates-append (byte s x) a b
 
--- a loop over the bytes: a turn, and the end
-pub turn : (bs : List ℕ) (i s : ℕ) {r : ℕ} → i < length bs → r ≡ byte s (get_or bs i 0) → updates r (drop (i + 1) bs) ≡ updates s (drop i bs)
-unfolding updates
-turn bs i s h p = rw (p, add-one, drop-cons bs i 0)
-
-pub ended : (bs : List ℕ) (i s : ℕ) → length bs ≤ i → s ≡ updates s (drop i bs)
-unfolding updates
-ended bs i s h = rw (drop_of_length-le bs {i = i})
-
 -- ---- the checksum with four bytes taken as zero
 
 -- an offset past the end counts as the end
@@ -146,15 +136,14 @@ take-least n s = go (dec_le n (length s))
         let e : min n (length s) ≡ length s = omega arith in
         ap (λ (k : ℕ). take k s) e ∙ take-length s ∙ sym (take_all n s (omega arith))
 
-drop-least : (n m k : ℕ) (s : List ℕ) → k ≡ min m (length s - min n (length s)) + min n (length s) → drop k s ≡ drop (n + m) s
-drop-least n m k s e = go (dec_le (n + m) (length s))
+drop-least : (n : ℕ) (s : List ℕ) → drop (min n (length s)) s ≡ drop n s
+drop-least n s = go (dec_le n (length s))
   where
-    go : Dec (n + m ≤ length s) → drop k s ≡ drop (n + m) s
-    go (yes h) = let f : k ≡ n + m = omega arith in ap (λ (j : ℕ). drop j s) f
+    go : Dec (n ≤ length s) → drop (min n (length s)) s ≡ drop n s
+    go (yes h) = ap (λ (k : ℕ). drop k s) (min-eq_left h)
     go (no h) =
-        let past : length s ≤ n + m = omega arith in
-        let end : length s ≤ k = omega arith in
-        drop_of_length-le s end ∙ sym (drop_of_length-le s past)
+        let e : min n (length s) ≡ length s = omega arith in
+        ap (λ (k : ℕ). drop k s) e ∙ drop_of_length-le s (omega arith) ∙ sym (drop_of_length-le s (omega arith))
 
 -- what `&s[n..]` reads as is all that is left after n
 rest : (n : ℕ) (l : List ℕ) → take (length l - n) (drop n l) ≡ drop n l
@@ -162,7 +151,7 @@ rest n l = take_all (length l - n) (drop n l) (simp length-drop (omega arith))
 
 -- the bytes before, the zeros and the bytes after, one after the other
 pub updates-zeroed : (s : List ℕ) (at : ℕ) {before after a b r : ℕ}
-    → before ≡ min at (length s) → after ≡ min 4 (length s - before) + before
+    → before ≡ min at (length s) → after ≡ min (at + 4) (length s)
     → a ≡ updates ones (take before s) → b ≡ updates a (0 ∷ 0 ∷ 0 ∷ 0 ∷ []) → r ≡ updates b (take (length s - after) (drop after s))
     → r ≡ updates ones (zeroed s at)
 unfolding zeroed
@@ -170,7 +159,7 @@ updates-zeroed s at {before} {after} {a} {b} p q ea eb er =
     let z : List ℕ = 0 ∷ 0 ∷ 0 ∷ 0 ∷ [] in
     let front : a ≡ updates ones (take at s) = ea ∙ ap (updates ones) (ap (λ (k : ℕ). take k s) p ∙ take-least at s) in
     let back : take (length s - after) (drop after s) ≡ drop (at + 4) s =
-    rest after s ∙ drop-least at 4 after s (rw p at q) in
+    rest after s ∙ ap (λ (k : ℕ). drop k s) q ∙ drop-least (at + 4) s in
     er ∙ ap₂ updates (eb ∙ ap (λ (x : ℕ). updates x z) front) back
     ∙ sym (updates-append ones (take at s) (z ++ drop (at + 4) s) ∙ updates-append (updates ones (take at s)) z (drop (at + 4) s))
 

@@ -6,7 +6,7 @@ mod table;
 
 ghost use Rattle.std.specs.Prelude.{◌≡◌, min};
 ghost use Rattle.std.specs.Int.Bits.{bit_xor};
-ghost use Rattle.crc32c.specs.Crc.{Table, ones, byte, updates, crc, zeroed};
+ghost use Rattle.crc32c.specs.Crc.{ones, byte, updates, crc, zeroed};
 
 // The state before the first byte.
 pub const START: u32 = 0xffff_ffff;
@@ -15,8 +15,7 @@ pub const START: u32 = 0xffff_ffff;
 pub fn update(state: u32, bytes: &[u8]) -> u32
     ensures { result ≡ updates state bytes.now }
 {
-    let t = table::entries();
-    run(&t, state, bytes)
+    bytes.iter().fold(state, |s, b| step(s, *b))
 }
 
 // The checksum of the bytes that led to a state.
@@ -36,13 +35,12 @@ pub fn checksum(bytes: &[u8]) -> u32
 pub fn start_zeroed(bytes: &[u8], at: usize) -> u32
     ensures { result ≡ updates ones (zeroed bytes.now at) }
 {
-    let t = table::entries();
     let zeros = [0u8; 4];
-    let before = least(at, bytes.len());
-    let after = least(4, bytes.len() - before) + before;
-    let a = run(&t, START, &bytes[..before]);
-    let b = run(&t, a, &zeros);
-    run(&t, b, &bytes[after..])
+    let before = at.min(bytes.len());
+    let after = at.saturating_add(4).min(bytes.len());
+    let a = update(START, &bytes[..before]);
+    let b = update(a, &zeros);
+    update(b, &bytes[after..])
 }
 
 // The checksum with the four bytes at an offset taken as zero.
@@ -52,30 +50,10 @@ pub fn checksum_zeroed(bytes: &[u8], at: usize) -> u32
     finish(start_zeroed(bytes, at))
 }
 
-fn run(t: &[u32; 256], state: u32, bytes: &[u8]) -> u32
-    requires { Table t.now }
-    ensures { result ≡ updates state bytes.now }
-{
-    let mut s = state;
-    let mut i = 0;
-    while i < bytes.len() {
-        s = step(t, s, bytes[i]);
-        i += 1;
-    }
-    s
-}
-
 // A byte's step by one look-up.
-fn step(t: &[u32; 256], state: u32, b: u8) -> u32
-    requires { Table t.now }
+fn step(state: u32, b: u8) -> u32
     ensures { result ≡ byte state b }
 {
     let x = state ^ (b as u32);
-    t[(x % 256) as usize] ^ (x / 256)
-}
-
-fn least(a: usize, b: usize) -> usize
-    ensures { result ≡ min a b }
-{
-    if a < b { a } else { b }
+    table::entries()[(x % 256) as usize] ^ (x / 256)
 }

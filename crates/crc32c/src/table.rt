@@ -1,7 +1,7 @@
 // The table of a byte's step.
 ghost use Rattle.crc32c.specs.Crc.{Table};
 
-const TABLE: [u32; 256] = [
+static TABLE: [u32; 256] = [
     0x00000000, 0xf26b8303, 0xe13b70f7, 0x1350f3f4, 0xc79a971f, 0x35f1141c, 0x26a1e7e8, 0xd4ca64eb,
     0x8ad958cf, 0x78b2dbcc, 0x6be22838, 0x9989ab3b, 0x4d43cfd0, 0xbf284cd3, 0xac78bf27, 0x5e133c24,
     0x105ec76f, 0xe235446c, 0xf165b798, 0x030e349b, 0xd7c45070, 0x25afd373, 0x36ff2087, 0xc494a384,
@@ -36,9 +36,9 @@ const TABLE: [u32; 256] = [
     0x79b737ba, 0x8bdcb4b9, 0x988c474d, 0x6ae7c44e, 0xbe2da0a5, 0x4c4623a6, 0x5f16d052, 0xad7d5351,
 ];
 
-// Handed out once and lent from there: a constant is stored anew wherever it is used.
-pub fn entries() -> [u32; 256]
-    ensures { Table result }
+// Borrowed, so that no use of it is a copy.
+pub fn entries() -> &'static [u32; 256]
+    ensures { Table result.now }
 {
-    TABLE
+    &TABLE
 }

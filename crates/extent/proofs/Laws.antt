@@ -1,27 +1,14 @@
--- Whether a range lies inside, and whether two share a byte, by tests that form no sum; a range in two parts.
+-- Whether two ranges share a byte; a range in two parts.
 -- Assumes nothing.
-use mathlib.Core.Path.{◌≡◌, refl, sym, ◌∙◌}
+use mathlib.Core.Path.{◌≡◌, refl, sym}
 use mathlib.Core.Bool.{Bool, true, false, ◌&&◌, ◌||◌, and-eq-true_iff}
 use mathlib.Core.Logic.{◌⊎◌, inl, inr, ⊎_elim}
-use Prim.Native.Nat.{ℕ, ◌+◌, ◌-◌, ◌≤◌, ◌<◌}
+use Prim.Native.Nat.{ℕ, ◌+◌, ◌<◌}
 use native.Mathlib.Omega.{arith}
 use native.Mathlib.Decide.{dec_lt}
-use lib.Dec.{leb, ltb}
-use borrow.Author.Tests.{leb-true, leb-false, le-leb, lt-leb, ltb-true, lt-ltb}
-use Rattle.extent.specs.Extent.{inside, shares}
-
-module _ (offset n size : ℕ) where
-  pub starts-outside : size < offset → inside offset n size ≡ false
-  starts-outside h = lt-leb (offset + n) size (omega arith)
-
-  pub by_difference : offset ≤ size → leb n (size - offset) ≡ inside offset n size
-  by_difference h = go (leb n (size - offset)) refl
-    where
-      go : (t : Bool) → leb n (size - offset) ≡ t → leb n (size - offset) ≡ inside offset n size
-      go true e = e ∙ sym (le-leb (offset + n) size (omega (arith, leb-true n (size - offset) e)))
-      go false e = e ∙ sym (lt-leb (offset + n) size (omega (arith, leb-false n (size - offset) e)))
-
--- ---- sharing a byte
+use lib.Dec.{ltb}
+use borrow.Author.Tests.{ltb-true, lt-ltb}
+use Rattle.extent.specs.Extent.{shares}
 
 -- two tests that hold together are one
 pub iff : (x y : Bool) → (x ≡ true → y ≡ true) → (y ≡ true → x ≡ true) → x ≡ y
@@ -50,32 +37,6 @@ module _ (a m b n : ℕ) where
 
   pub share : 0 < m → 0 < n → a < b + n → b < a + m → shares a m b n ≡ true
   share x y z w = rw (lt-ltb 0 m x, lt-ltb 0 n y, lt-ltb a (b + n) z, lt-ltb b (a + m) w)
-
-  pub starts-before : a < b → (ltb 0 n && ltb (b - a) m) ≡ shares a m b n
-  starts-before h = iff (ltb 0 n && ltb (b - a) m) (shares a m b n) there back
-    where
-      there : (ltb 0 n && ltb (b - a) m) ≡ true → shares a m b n ≡ true
-      there e =
-          let (p, q) = (and-eq-true_iff (ltb 0 n) (ltb (b - a) m)).0 e in
-          let x : 0 < n = ltb-true 0 n p in
-          let y : b - a < m = ltb-true (b - a) m q in
-          share (omega arith) x (omega arith) (omega arith)
-
-      back : shares a m b n ≡ true → (ltb 0 n && ltb (b - a) m) ≡ true
-      back e = let s = sharing e in rw (lt-ltb 0 n s.1, lt-ltb (b - a) m (omega arith))
-
-  pub starts-behind : b ≤ a → (ltb 0 m && ltb (a - b) n) ≡ shares a m b n
-  starts-behind h = iff (ltb 0 m && ltb (a - b) n) (shares a m b n) there back
-    where
-      there : (ltb 0 m && ltb (a - b) n) ≡ true → shares a m b n ≡ true
-      there e =
-          let (p, q) = (and-eq-true_iff (ltb 0 m) (ltb (a - b) n)).0 e in
-          let x : 0 < m = ltb-true 0 m p in
-          let y : a - b < n = ltb-true (a - b) n q in
-          share x (omega arith) (omega arith) (omega arith)
-
-      back : shares a m b n ≡ true → (ltb 0 m && ltb (a - b) n) ≡ true
-      back e = let s = sharing e in rw (lt-ltb 0 m s.0, lt-ltb (a - b) n (omega arith))
 
 -- it does not matter which is named first
 pub shares-symmetric : (a m b n : ℕ) → shares a m b n ≡ shares b n a m

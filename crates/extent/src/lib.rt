@@ -7,7 +7,7 @@ ghost use Rattle.extent.specs.Extent.{whole_mib, inside, shares, in_bounds, over
 pub const MIB: u64 = 1048576;
 
 // Where a part of a file lies: the log, a region, an item.
-#[derive(Clone, Copy)]
+#[derive(Clone, Copy, Debug, Default, PartialEq, Eq, Drop)]
 pub struct Extent {
     pub offset: u64,
     pub length: u64,
@@ -17,10 +17,7 @@ pub struct Extent {
 pub fn nowhere() -> Extent
     ensures { result ≡ nowhere_at }
 {
-    Extent {
-        offset: 0,
-        length: 0,
-    }
+    Extent::default()
 }
 
 pub fn is_whole_mib(n: u64) -> bool
@@ -32,10 +29,7 @@ pub fn is_whole_mib(n: u64) -> bool
 pub fn is_inside(offset: u64, length: u64, size: u64) -> bool
     ensures { result ≡ inside offset length size }
 {
-    if size < offset {
-        return false;
-    }
-    length <= size - offset
+    offset <= size && length <= size - offset
 }
 
 // The bytes that an extent names: no copy, but the very part of the slice, which starts at the extent's offset.
@@ -55,9 +49,9 @@ pub fn share_a_byte(a: u64, m: u64, b: u64, n: u64) -> bool
     ensures { result ≡ shares a m b n }
 {
     if a < b {
-        (0 < n) & (b - a < m)
+        0 < n && b - a < m
     } else {
-        (0 < m) & (a - b < n)
+        0 < m && a - b < n
     }
 }
 
@@ -88,6 +82,6 @@ pub fn shifted(base: u64, e: Extent) -> Extent
 {
     Extent {
         offset: base + e.offset,
-        length: e.length,
+        ..e
     }
 }

@@ -3,16 +3,17 @@
 use mathlib.Core.Path.{◌≡◌, refl, sym, ap, ap₂, ◌∙◌}
 use mathlib.Core.Bool.{Bool, true, false, ◌&&◌}
 use mathlib.Core.List.{List, [], ◌∷◌, ◌++◌}
-use Prim.Native.Nat.{ℕ, ◌+◌, ◌*◌, ◌^◌, ◌≤◌, ◌<◌}
-use native.Mathlib.Nat.{pow-suc}
-use native.Mathlib.Numerals.{add-one}
+use Prim.Native.Nat.{ℕ, zero, suc, ◌+◌, ◌/◌, ◌%◌, ◌*◌, ◌^◌, ◌≤◌, ◌<◌}
+use native.Mathlib.Nat.{pow-suc, div-div-eq-div-mul}
 use native.Mathlib.Omega.{arith}
 use lib.Dec.{eqb}
-use lib.ListN.{length, take, drop, get_or, length-drop, drop_of_length-le}
+use lib.ListN.{length, take, drop, get_or, length-drop}
 use lib.Seq.{take-add, drop-drop, length-take-le, drop-cons}
 use borrow.Author.Tests.{eq-eqb, ne_eqb, eqb-true, eqb-false}
+use Rattle.std.specs.List.{starts_with}
+use Rattle.std.specs.Int.{Width, byte_len, byte_at, bytes_low_first, to_le_bytes}
 use Rattle.field.specs.declared.Guid.{Guid}
-use Rattle.field.specs.Fields.{le, field, guid_at, number, starts}
+use Rattle.field.specs.Fields.{le, le_bytes, field, guid_at, number, starts}
 
 le-append : (a b : List ℕ) → le (a ++ b) ≡ le a + 256 ^ length a * le b
 unfolding le
@@ -52,19 +53,12 @@ unfolding starts
 starts-nil [] = refl
 starts-nil (b ∷ s) = refl
 
-pub starts-end : (s k : List ℕ) (j : ℕ) → length k ≤ j → starts s (drop j k) ≡ true
-starts-end s k j h = ap (starts s) (drop_of_length-le k h) ∙ starts-nil s
-
-module _ (s k : List ℕ) (i j : ℕ) (hi : i < length s) (hj : j < length k) where
-  starts-at : starts (drop i s) (drop j k) ≡ (eqb (get_or s i 0) (get_or k j 0) && starts (drop (i + 1) s) (drop (j + 1) k))
-  unfolding starts
-  starts-at = rw (add-one i, add-one j, drop-cons s i 0, drop-cons k j 0)
-
-  pub starts-yes : get_or s i 0 ≡ get_or k j 0 → starts (drop i s) (drop j k) ≡ starts (drop (i + 1) s) (drop (j + 1) k)
-  starts-yes e = starts-at ∙ ap (λ (t : Bool). t && starts (drop (i + 1) s) (drop (j + 1) k)) (eq-eqb _ _ e)
-
-  pub starts-no : (get_or s i 0 ≡ get_or k j 0 → ⊥) → starts (drop i s) (drop j k) ≡ false
-  starts-no n = starts-at ∙ ap (λ (t : Bool). t && starts (drop (i + 1) s) (drop (j + 1) k)) (ne_eqb _ _ n)
+-- tests of the first elements, one by one, are the library's `starts_with`
+pub starts-with : (s k : List ℕ) → starts_with eqb s k ≡ starts s k
+unfolding starts
+starts-with s [] = sym (starts-nil s)
+starts-with [] (k ∷ ks) = refl
+starts-with (b ∷ s) (k ∷ ks) = ap₂ (λ (x y : Bool). x && y) (eqb-iff k b b k sym sym) (starts-with s ks)
 
 -- ---- an identifier: 16 bytes as one number, and compared half by half
 
@@ -72,13 +66,36 @@ module _ (s k : List ℕ) (i j : ℕ) (hi : i < length s) (hj : j < length k) wh
 pub number_at : (s : List ℕ) (at : ℕ) → at + 8 ≤ length s → number (guid_at s at) ≡ field s at 16
 number_at s at h = sym (field-add s at 8 8 h)
 
-module _ (s : List ℕ) (at : ℕ) (g : Guid) {a : ℕ} (h : at + 8 ≤ length s) (p : a ≡ field s at 8) where
-  pub low_same : {b : ℕ} → b ≡ field s (at + 8) 8 → a ≡ g.low → eqb b g.high ≡ eqb (field s at 16) (number g)
-  low_same {b} q e =
-      let j : number (guid_at s at) ≡ field s at 16 = number_at s at h in
-      eqb-iff b g.high (field s at 16) (number g) (λ x. omega arith) (λ x. omega arith)
+-- the halves are equal exactly where the numbers are
+pub halves_same : (s : List ℕ) (at : ℕ) (g h : Guid) → at + 8 ≤ length s → h ≡ guid_at s at → h.low < 2 ^ 64 → g.low < 2 ^ 64
+    → (eqb h.low g.low && eqb h.high g.high) ≡ eqb (field s at 16) (number g)
+halves_same s at g h l e bh bg = go (eqb h.low g.low) refl
+  where
+    same : number h ≡ field s at 16
+    same = ap number e ∙ number_at s at l
 
-  pub low-other : a < 2 ^ 64 → g.low < 2 ^ 64 → (a ≡ g.low → ⊥) → eqb (field s at 16) (number g) ≡ false
-  low-other ha hl n =
-      let j : number (guid_at s at) ≡ field s at 16 = number_at s at h in
-      ne_eqb (field s at 16) (number g) (λ x. omega arith)
+    go : (t : Bool) → eqb h.low g.low ≡ t → (t && eqb h.high g.high) ≡ eqb (field s at 16) (number g)
+    go true p =
+        let j : number h ≡ field s at 16 = same in
+        let q : h.low ≡ g.low = eqb-true h.low g.low p in
+        eqb-iff h.high g.high (field s at 16) (number g) (λ x. omega arith) (λ x. omega arith)
+    go false p =
+        let j : number h ≡ field s at 16 = same in
+        sym (ne_eqb (field s at 16) (number g) (λ x. eqb-false h.low g.low p (omega arith)))
+
+-- ---- a number as bytes
+
+digit : (i n : ℕ) → byte_at i n ≡ n / 256 ^ i % 256
+digit zero n = ap (λ (x : ℕ). x % 256) {x = n} {y = n / 256 ^ 0} (omega arith)
+digit (suc i) n = refl
+
+from_byte : (k i n : ℕ) → bytes_low_first i k n ≡ le_bytes k (n / 256 ^ i)
+unfolding le_bytes
+from_byte zero i n = refl
+from_byte (suc k) i n =
+    ap₂ (λ (b : ℕ) (bs : List ℕ). b ∷ bs) (digit i n)
+    (from_byte k (suc i) n ∙ ap (le_bytes k) (ap (λ (d : ℕ). n / d) (pow-suc 256 i) ∙ sym (div-div-eq-div-mul n (256 ^ i) 256)))
+
+-- what the library's `to_le_bytes` gives, at any width
+pub bytes_of : (w : Width) (x : ℕ) → to_le_bytes w x ≡ le_bytes (byte_len w) x
+bytes_of w x = from_byte (byte_len w) 0 x ∙ ap (le_bytes (byte_len w)) {x = x / 256 ^ 0} {y = x} (omega arith)

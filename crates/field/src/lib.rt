@@ -1,18 +1,20 @@
 // Fields of a slice of bytes: little-endian numbers of one, two, four and eight bytes, identifiers of 16 bytes, and a
 // run of bytes compared with a key.
-// Its module: `number`, a number as bytes.
 #![tactic(auto)]
 
-pub mod number;
-
-ghost use Rattle.std.specs.Prelude.{◌≡◌, ◌+◌, ◌≤◌, nat_eq, length, drop};
+ghost use Rattle.std.specs.Prelude.{◌≡◌, ◌+◌, ◌≤◌, nat_eq, length, take, drop};
 ghost use Rattle.field.specs.Fields.{field, guid_at, number, starts};
 
 // An identifier of 16 bytes, as it is stored: its first and its last eight bytes, each a little-endian number.
-#[derive(Clone, Copy)]
+#[derive(Clone, Copy, Debug, PartialEq, Eq, Drop)]
 pub struct Guid {
     pub low: u64,
     pub high: u64,
+}
+
+impl Guid {
+    // No identifier, as in a file without a log.
+    pub const ZERO: Guid = Guid { low: 0, high: 0 };
 }
 
 pub fn u8_at(s: &[u8], at: usize) -> u8
@@ -47,9 +49,10 @@ pub fn guid_at(s: &[u8], at: usize) -> Guid
     requires { at + 16 ≤ length s.now }
     ensures { result ≡ guid_at s.now at }
 {
-    let low = u64_at(s, at);
-    let high = u64_at(s, at + 8);
-    Guid { low, high }
+    Guid {
+        low: u64_at(s, at),
+        high: u64_at(s, at + 8),
+    }
 }
 
 // The 16 bytes at an offset are the identifier.
@@ -57,11 +60,15 @@ pub fn guid_is(s: &[u8], at: usize, guid: Guid) -> bool
     requires { at + 16 ≤ length s.now }
     ensures { result ≡ nat_eq (field s.now at 16) (number guid) }
 {
-    if u64_at(s, at) == guid.low {
-        u64_at(s, at + 8) == guid.high
-    } else {
-        false
-    }
+    guid_at(s, at) == guid
+}
+
+// The `N` bytes at an offset.
+pub fn array_at<const N: usize>(s: &[u8], at: usize) -> &[u8; N]
+    requires { at + N ≤ length s.now }
+    ensures { result.now ≡ take N (drop at s.now) }
+{
+    s[at..].first_chunk().unwrap()
 }
 
 // The bytes at an offset are the key.
@@ -69,12 +76,5 @@ pub fn bytes_are(s: &[u8], at: usize, key: &[u8]) -> bool
     requires { at + length key.now ≤ length s.now }
     ensures { result ≡ starts (drop at s.now) key.now }
 {
-    let mut i = 0;
-    while i < key.len() {
-        if s[at + i] != key[i] {
-            return false;
-        }
-        i += 1;
-    }
-    true
+    s[at..].starts_with(key)
 }

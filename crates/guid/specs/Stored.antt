@@ -1,8 +1,7 @@
 -- Identifiers as they are written, and as they are stored; tables of them.
 -- An identifier is compared as the number of its 16 stored bytes.
 -- Assumes nothing.
-use Rattle.std.specs.Prelude.{List, [], ◌∷◌, ◌++◌, reverse, ℕ, zero, suc, ◌/◌, ◌%◌, nat_eq, length, get_or}
-use Rattle.std.proofs.Math.Option.{Option}
+use Rattle.std.specs.Prelude.{List, [], ◌∷◌, ◌++◌, reverse, ℕ, zero, suc, ◌/◌, ◌%◌, nat_eq, length, get_or, Option}
 use Rattle.decision.specs.Bounded.{first}
 use Rattle.field.specs.Fields.{field}
 

@@ -2,11 +2,9 @@
 #![tactic(auto)]
 
 ghost use Rattle.std.specs.Prelude.{◌≡◌, ◌<◌, nat_eq, length};
-ghost use Rattle.decision.specs.Bounded.{found};
 ghost use Rattle.field.specs.Fields.{number};
 ghost use Rattle.guid.specs.Stored.{identifier_in, row_of};
 
-use decision::Index;
 use field::Guid;
 
 // Row k of the table is the identifier.
@@ -18,15 +16,8 @@ pub fn is_row(table: &[[u8; 16]], k: usize, id: Guid) -> bool
 }
 
 // The first row that is the identifier.
-pub fn row(table: &[[u8; 16]], id: Guid) -> Index
-    ensures { found result ≡ row_of table.now (number id) }
+pub fn row(table: &[[u8; 16]], id: Guid) -> Option<usize>
+    ensures { result ≡ row_of table.now (number id) }
 {
-    let mut k = 0;
-    while k < table.len() {
-        if is_row(table, k, id) {
-            return Index::At(k);
-        }
-        k += 1;
-    }
-    Index::Nothing
+    (0..table.len()).find(|k| is_row(table, *k, id))
 }

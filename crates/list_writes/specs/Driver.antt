@@ -1,12 +1,10 @@
 -- What the program's loop goes by: a machine is handed in as long as it asks for something, and less is left each time.
 -- Assumes nothing.
-use Rattle.std.specs.Prelude.{Bool, true, false, ℕ, ◌+◌, ◌≤◌, ◌<◌}
+use Rattle.std.specs.Prelude.{Bool, true, false, ℕ, ◌+◌, ◌≤◌, ◌<◌, Option, None, Some}
 use Rattle.vhdx_pieces.specs.declared.Machine.{Machine}
 use Rattle.vhdx_pieces.specs.declared.Turn.{Turn}
 use Rattle.vhdx_pieces.specs.declared.Turn.TheVariants.{Read, Grow, Write, Done, Refused}
 use Rattle.vhdx_pieces.specs.Machines.{Kept, left_in, left_of}
-use Rattle.list_writes.specs.declared.window.Place.{Place}
-use Rattle.list_writes.specs.declared.window.Place.TheVariants.{At, Missing}
 
 abbrev pub asks_of : Turn → Bool
 asks_of (Read m) = true
@@ -28,6 +26,6 @@ Toward (Done w) t = Kept t
 Toward (Refused c) t = Kept t
 
 -- n bytes from there on lie in a buffer of 64 KiB
-abbrev pub Within : ℕ → Place → Type 0
-Within n (At start) = start + n ≤ 65536
-Within n Missing = Unit {0}
+abbrev pub Within : ℕ → Option ℕ → Type 0
+Within n (Some start) = start + n ≤ 65536
+Within n None = Unit {0}

@@ -1,76 +1,57 @@
 // The output. The lines of sectors are gathered in a buffer, which is printed when it is full and at the end.
-ghost use Rattle.std.specs.Prelude.{◌+◌, ◌≤◌, IfOk, length as length_of};
+ghost use Rattle.std.specs.Prelude.{◌≡◌, ◌+◌, ◌≤◌, OnOk, length as length_of};
 
+use decision::Refusal;
 use std::io;
-use vhdx_replay::store;
 
-// A sector's line, behind the first `used` bytes of the buffer. Answers how many bytes are not printed yet.
-pub fn write(
-    rt: &impl Print,
-    text: &mut [u8; 65536],
+// The lines that are not printed yet.
+#[derive(Drop)]
+pub struct Lines {
+    text: [u8; 65536],
     used: usize,
-    offset: u64,
-    is_data: bool,
-) -> io::Result<usize>
-    requires { used ≤ 65536 }
-    ensures { IfOk result (λ n. n ≤ 65536) }
-{
-    let mut digits = [0u8; 20];
-    let start = itoa::write_digits(offset, &mut digits, 20);
-    let used = put_digits(rt, text, used, &digits, start)?;
-    if is_data {
-        put(rt, text, used, b" D\n")
-    } else {
-        put(rt, text, used, b" Z\n")
+    ghost in_range: { used ≤ 65536 },
+}
+
+impl Lines {
+    pub fn new() -> Lines {
+        Lines {
+            text: [0u8; 65536],
+            used: 0,
+        }
+    }
+
+    // A sector's line.
+    pub fn push(&mut self, rt: &impl Print, offset: u64, is_data: bool) -> io::Result<()> {
+        let mut digits = [0u8; 20];
+        let start = itoa::write_digits(offset, &mut digits, 20);
+        self.put(rt, &digits[start..])?;
+        self.put(rt, if is_data { b" D\n" } else { b" Z\n" })
+    }
+
+    // What is there is printed first where the bytes do not fit behind it.
+    fn put(&mut self, rt: &impl Print, bytes: &[u8]) -> io::Result<()>
+        requires { length_of bytes.now ≤ 65536 }
+    {
+        if bytes.len() > self.text.len() - self.used {
+            self.flush(rt)?;
+        }
+        let end = self.used + bytes.len();
+        self.text[self.used..end].copy_from_slice(bytes);
+        self.used = end;
+        Ok(())
+    }
+
+    pub fn flush(&mut self, rt: &impl Print) -> io::Result<()>
+        ensures { OnOk result (self.new.used ≡ 0) }
+    {
+        rt.write_all(&self.text[..self.used])?;
+        self.used = 0;
+        Ok(())
     }
 }
 
-// The digits stand at the array's end, from `start` on.
-fn put_digits(
-    rt: &impl Print,
-    text: &mut [u8; 65536],
-    used: usize,
-    digits: &[u8; 20],
-    start: usize,
-) -> io::Result<usize>
-    requires { (used ≤ 65536) × (start ≤ length_of digits.now) }
-    ensures { IfOk result (λ n. n ≤ 65536) }
-{
-    let view: &[u8] = digits;
-    put(rt, text, used, &view[start..])
-}
-
-fn put(rt: &impl Print, text: &mut [u8; 65536], used: usize, bytes: &[u8]) -> io::Result<usize>
-    requires { (used ≤ 65536) × (length_of bytes.now ≤ 65536) }
-    ensures { IfOk result (λ n. n ≤ 65536) }
-{
-    let start = reserve(rt, text, used, bytes.len())?;
-    store::bytes(text, start, bytes);
-    Ok(start + bytes.len())
-}
-
-// Where n bytes more go: what is there is printed first where they do not fit behind it.
-fn reserve(rt: &impl Print, text: &[u8; 65536], used: usize, n: usize) -> io::Result<usize>
-    requires { (used ≤ 65536) × (n ≤ 65536) }
-    ensures { IfOk result (λ start. start + n ≤ 65536) }
-{
-    if n <= 65536 - used {
-        Ok(used)
-    } else {
-        flush(rt, text, used)?;
-        Ok(0)
-    }
-}
-
-pub fn flush(rt: &impl Print, text: &[u8; 65536], used: usize) -> io::Result<()>
-    requires { used ≤ 65536 }
-{
-    let view: &[u8] = text;
-    rt.write_all(&view[..used])
-}
-
-pub fn refused(rt: &impl Print, number: u64) -> io::Result<()> {
-    println!(rt; "refused {number}")
+pub fn refused(rt: &impl Print, refusal: Refusal) -> io::Result<()> {
+    println!(rt; "refused {}", refusal.number())
 }
 
 pub fn unreadable(rt: &impl Print) -> io::Result<()> {

@@ -7,27 +7,27 @@
 mod lines;
 mod window;
 
-ghost use Rattle.std.specs.Prelude.{◌≡◌, ◌≤◌, IfOk};
+ghost use Rattle.std.specs.Prelude.{◌≡◌, IfSome};
 ghost use Rattle.vhdx_pieces.specs.Machines.{Sane, Kept};
 ghost use Rattle.list_writes.specs.Driver.{asks_of, Ahead, Toward};
 
+use lines::Lines;
 use std::env::Env;
 use std::fs::File;
 use std::io::{Seek, SeekFrom};
 use std::os::unix::fs::FileExt;
 use std::{io, str};
-use vhdx_pieces::{Finish, Machine, Turn};
-use window::{Place, Window};
+use vhdx_pieces::{Machine, Turn};
+use window::Window;
 
 // Document 01's limit of a file's length, 128 TiB.
 const CAPACITY: u64 = 140737488355328;
 
-// What is asked for next, the bytes that are at hand, and whether all that was asked for could be read.
+// What is asked for next, and the bytes that are at hand.
 #[derive(Clone, Copy)]
 struct State {
     turn: Turn,
     window: Window,
-    readable: bool,
 }
 
 fn main(rt: HostRuntime) -> io::Result<()> {
@@ -57,108 +57,59 @@ fn list(rt: &impl Print, file: &File) -> io::Result<()> {
 
 fn run(rt: &impl Print, file: &File, length: u64) -> io::Result<()> {
     let mut bytes = [0u8; 65536];
-    let mut text = [0u8; 65536];
-    let mut used: usize = 0;
+    let mut lines = Lines::new();
     let mut state = State {
         turn: vhdx_pieces::start(length, CAPACITY),
-        window: window::empty(),
-        readable: true,
+        window: Window::EMPTY,
     };
-    while asks(state) {
-        used = show(rt, state, &mut text, used)?;
-        state = turn(file, state, &mut bytes);
+    while asks(state.turn) {
+        if let Turn::Write(m) = state.turn {
+            lines.push(rt, vhdx_pieces::write_offset(m), vhdx_pieces::is_data(m))?;
+        }
+        let Some(next) = turn(file, state, &mut bytes) else {
+            lines.flush(rt)?;
+            return lines::unreadable(rt);
+        };
+        state = next;
     }
-    lines::flush(rt, &text, used)?;
-    end(rt, state)
+    lines.flush(rt)?;
+    end(rt, state.turn)
 }
 
-fn asks(state: State) -> bool
-    ensures { result ≡ asks_of state.turn }
+fn asks(turn: Turn) -> bool
+    ensures { result ≡ asks_of turn }
 {
-    let turn = state.turn;
-    match turn {
-        Turn::Read(_) => true,
-        Turn::Grow(_) => true,
-        Turn::Write(_) => true,
-        Turn::Done(_) => false,
-        Turn::Refused(_) => false,
-    }
+    matches!(turn, Turn::Read(_) | Turn::Grow(_) | Turn::Write(_))
 }
 
-// A write's line, behind those that are not printed yet.
-fn show(rt: &impl Print, state: State, text: &mut [u8; 65536], used: usize) -> io::Result<usize>
-    requires { used ≤ 65536 }
-    ensures { IfOk result (λ n. n ≤ 65536) }
-{
-    let turn = state.turn;
-    match turn {
-        Turn::Write(m) => lines::write(
-            rt,
-            text,
-            used,
-            vhdx_pieces::write_offset(m),
-            vhdx_pieces::is_data(m),
-        ),
-        Turn::Read(_) => Ok(used),
-        Turn::Grow(_) => Ok(used),
-        Turn::Done(_) => Ok(used),
-        Turn::Refused(_) => Ok(used),
-    }
-}
-
-// The machine is handed in, with bytes where it wants any. Growth and writes count as done.
-fn turn(file: &File, state: State, bytes: &mut [u8; 65536]) -> State
+// The machine is handed in, with bytes where it wants any. Growth and writes count as done. None where the bytes cannot be read.
+fn turn(file: &File, state: State, bytes: &mut [u8; 65536]) -> Option<State>
     requires { Kept state.turn }
-    ensures { Toward state.turn result.turn }
+    ensures { IfSome result (λ s. Toward state.turn s.turn) }
 {
-    let turn = state.turn;
-    let window = state.window;
-    match turn {
-        Turn::Read(m) => hand_in(file, m, window, bytes),
-        Turn::Grow(m) => hand_in(file, m, window, bytes),
-        Turn::Write(m) => hand_in(file, m, window, bytes),
-        Turn::Done(_) => state,
-        Turn::Refused(_) => state,
+    match state.turn {
+        Turn::Read(m) | Turn::Grow(m) | Turn::Write(m) => hand_in(file, m, state.window, bytes),
+        Turn::Done(_) | Turn::Refused(_) => Some(state),
     }
 }
 
-fn hand_in(file: &File, m: Machine, window: Window, bytes: &mut [u8; 65536]) -> State
+fn hand_in(file: &File, m: Machine, window: Window, bytes: &mut [u8; 65536]) -> Option<State>
     requires { Sane m }
-    ensures { Ahead m result.turn }
+    ensures { IfSome result (λ s. Ahead m s.turn) }
 {
     let wanted = vhdx_pieces::wanted(m);
-    let window = window::moved(file, window, wanted, bytes);
-    match window.place(wanted) {
-        Place::At(start) => {
-            let end = start + wanted.length as usize;
-            let view: &[u8] = bytes;
-            State {
-                turn: vhdx_pieces::next(m, &view[start..end]),
-                window,
-                readable: true,
-            }
-        }
-        Place::Missing => State {
-            turn: Turn::Done(Finish {
-                length: 0,
-                count: 0,
-            }),
-            window,
-            readable: false,
-        },
-    }
+    let window = window.moved(file, wanted, bytes);
+    let start = window.place(wanted)?;
+    let end = start + wanted.length as usize;
+    Some(State {
+        turn: vhdx_pieces::next(m, &bytes[start..end]),
+        window,
+    })
 }
 
-fn end(rt: &impl Print, state: State) -> io::Result<()> {
-    let turn = state.turn;
-    if !state.readable {
-        return lines::unreadable(rt);
-    }
+fn end(rt: &impl Print, turn: Turn) -> io::Result<()> {
     match turn {
-        Turn::Refused(number) => lines::refused(rt, number),
-        Turn::Read(_) => Ok(()),
-        Turn::Grow(_) => Ok(()),
-        Turn::Write(_) => Ok(()),
-        Turn::Done(_) => Ok(()),
+        Turn::Refused(refusal) => lines::refused(rt, refusal),
+        _ => Ok(()),
     }
 }

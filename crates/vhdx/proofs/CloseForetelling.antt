@@ -19,8 +19,7 @@ use Rattle.vhdx_steps.proofs.Reading.{header_of}
 use Rattle.vhdx_rewrite.specs.Rewrite.{greatest}
 use Rattle.vhdx_close_steps.specs.Close.{header_sector, close_plan, after_close, closed_by, close_answer}
 use Rattle.vhdx_close_steps.proofs.Safety.{refused-either}
-use Rattle.vhdx.specs.declared.Planned.{Planned}
-use Rattle.vhdx.specs.Plan.{planned_by, plan_answer, planned_of, ForetellsClose}
+use Rattle.vhdx.specs.Plan.{Planned, planned_by, plan_answer, planned_of, ForetellsClose}
 
 module _ (identifier : List ℕ) (f : File) where
   -- the answer by the plan

@@ -4,14 +4,13 @@
 use mathlib.Core.Path.{◌≡◌, refl, sym, ap, subst, ◌∙◌}
 use mathlib.Core.List.{List}
 use mathlib.Core.Logic.{inl, inr}
-use mathlib.Core.Option.{none}
+use Rattle.std.specs.Prelude.{None, Ok}
 use Prim.Native.Nat.{ℕ, ◌≤◌}
 use native.Mathlib.Omega.{arith}
 use lib.ListN.{length, take}
 use Rattle.extent.specs.declared.Extent.{Extent}
 use Rattle.extent.specs.Extent.{part}
 use Rattle.vhdx_header.specs.declared.Header.{Header}
-use Rattle.vhdx_header.specs.declared.Answer.TheVariants.{Current}
 use Rattle.vhdx_header.specs.Current.{current_header}
 use Rattle.vhdx_header.proofs.Laws.{accepted}
 use Rattle.vhdx_walk.specs.Entries.{Sector}
@@ -25,14 +24,13 @@ use Rattle.vhdx_replay.proofs.Applying.{extent-is}
 use Rattle.vhdx_steps.proofs.Reading.{header_of, reads, same-part, same_first}
 use Rattle.vhdx_steps.proofs.Restart.{whole, planned, untouched, same-file}
 use Rattle.vhdx_steps.proofs.Losses.{same-capacity, as-history, left}
-use Rattle.vhdx.specs.declared.Attached.{Attached}
-use Rattle.vhdx.specs.Attach.{image_of, after_attach, read, told, answer_by, attach_answer}
+use Rattle.vhdx.specs.Attach.{Attached, image_of, after_attach, read, told, answer_by, attach_answer}
 use Rattle.vhdx.specs.Step.{after_step}
 use Rattle.vhdx.specs.Refusals.{refusal_of_plan}
 use Rattle.vhdx.specs.CrashSafety.{PlannedExactlyThen, Restarts, CrashSafe, PowerSafe, RunToTheEnd}
 use Rattle.vhdx.proofs.Refusals.{by-the-table}
 
-applies : (p : Plan) → refusal_of_plan p ≡ none → (m : ℕ) × (ss : List Sector) × (p ≡ apply m ss)
+applies : (p : Plan) → refusal_of_plan p ≡ None → (m : ℕ) × (ss : List Sector) × (p ≡ apply m ss)
 applies (refused c) e = let z : ◌≡◌ {A = ℕ} 0 1 = cc in absurd (omega arith)
 applies (apply m ss) e = (m, ss, refl)
 
@@ -46,7 +44,7 @@ module _ (m : ℕ) (ss : List Sector) (f : File) (e : plan_of f ≡ apply m ss) 
   unfolding attach_answer after_attach
   answers = ap (λ (p : Plan). answer_by p (runs (steps p) f)) e
 
-module _ (o f : File) (m : ℕ) (ss : List Sector) (e : plan_of o ≡ apply m ss) (h : Header) (k : current_header o.buffer o.size ≡ Current h) (kept : Lost m ss o f) where
+module _ (o f : File) (m : ℕ) (ss : List Sector) (e : plan_of o ≡ apply m ss) (h : Header) (k : current_header o.buffer o.size ≡ Ok h) (kept : Lost m ss o f) where
   again : plan_of f ≡ apply m ss
   again = planned (reads o h k e) kept
 

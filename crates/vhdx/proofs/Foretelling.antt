@@ -4,7 +4,7 @@
 use mathlib.Core.Path.{◌≡◌, refl, sym, ap, subst, ◌∙◌}
 use mathlib.Core.Bool.{Bool, true, false, cond, ◌&&◌}
 use mathlib.Core.List.{List, [], ◌∷◌}
-use mathlib.Core.Option.{Option, none, some}
+use Rattle.std.specs.Prelude.{Option, None, Some}
 use Prim.Native.Nat.{ℕ}
 use lib.ListN.{length}
 use Rattle.decision.specs.Refusal.{Outcome, refused as declined, answered, check, and_then, refusal_of}
@@ -18,7 +18,7 @@ use Rattle.vhdx_region.specs.Region.{copy1, copy2, table_at, valid_table, bat_ro
 use Rattle.vhdx_metadata.specs.declared.Items.{Items}
 use Rattle.vhdx_metadata.specs.Table.{metadata_rule}
 use Rattle.vhdx_metadata.specs.Items.{needed_rule, contents, items}
-use Rattle.vhdx_tables.specs.Tables.{facts_of, parent_rule, judged, with_regions, tables, reading}
+use Rattle.vhdx_tables.specs.Tables.{facts_of, parent_rule, judged, with_regions, tables}
 use Rattle.vhdx_log.specs.declared.Work.{Work}
 use Rattle.vhdx_log.specs.Work.{Plan, refused, apply, count}
 use Rattle.vhdx_log.specs.Plan.{plan}
@@ -27,9 +27,8 @@ use Rattle.vhdx_steps.specs.Steps.{File, runs, steps}
 use Rattle.vhdx_steps.specs.Calls.{file, plan_of}
 use Rattle.vhdx_replay.specs.Planned.{log_extent, Planned as WorkPlanned}
 use Rattle.vhdx_steps.proofs.Every.{All}
-use Rattle.vhdx.specs.declared.Planned.{Planned}
 use Rattle.vhdx.specs.Attach.{image_of, after_attach, read, answer_by, attach_answer}
-use Rattle.vhdx.specs.Plan.{planned_by, plan_answer, foretold, AsPlanned, Foretells}
+use Rattle.vhdx.specs.Plan.{Planned, planned_by, plan_answer, foretold, AsPlanned, Foretells}
 use Rattle.vhdx.specs.Refusals.{Row, first_of, rows, first_row, refusal_of_plan}
 use Rattle.vhdx_replay.proofs.Done.{written-size}
 use Rattle.vhdx.proofs.Refusals.{by-the-table}
@@ -49,8 +48,8 @@ applied-plan {n = n} {w = w} p =
 -- ---- 1 to 8: every row of the table
 
 number_of : Option ℕ → ℕ
-number_of none = 0
-number_of (some c) = c
+number_of None = 0
+number_of (Some c) = c
 
 rows-foretold : (rs : List Row) → All (λ (r : Row). foretold r.number ≡ r.number) rs → foretold (number_of (first_of rs)) ≡ number_of (first_of rs)
 unfolding number_of
@@ -58,7 +57,7 @@ rows-foretold [] h = refl
 rows-foretold (r ∷ rs) h = go r.applies (rows-foretold rs h.1)
   where
     go : (t : Bool) → foretold (number_of (first_of rs)) ≡ number_of (first_of rs)
-        → foretold (number_of (cond t (some r.number) (first_of rs))) ≡ number_of (cond t (some r.number) (first_of rs))
+        → foretold (number_of (cond t (Some r.number) (first_of rs))) ≡ number_of (cond t (Some r.number) (first_of rs))
     go true rest = h.0
     go false rest = rest
 
@@ -92,9 +91,9 @@ unfolding read_table
 table-later n log t = checked (entries_rule n log t) 10 (both_found t (entry_of t bat_row) (entry_of t metadata_row)) refl (found (entry_of t bat_row) (entry_of t metadata_row))
   where
     found : (b m : Option ℕ) → Later (both_found t b m)
-    found none m = refl
-    found (some b) none = refl
-    found (some b) (some m) = refl
+    found None m = refl
+    found (Some b) None = refl
+    found (Some b) (Some m) = refl
 
 regions-later : (image : List ℕ) (log : Extent) → Later (regions image log)
 unfolding regions
@@ -121,10 +120,6 @@ tables-later image log =
     both (regions image log) (with_regions image) (regions-later image log)
     (λ g. both (items (part image g.metadata)) (λ (m : Items). judged image (facts_of g m)) (items-later (part image g.metadata)) (λ m. judged-later image (facts_of g m)))
 
-reading-later : (o : Outcome Facts) → Later o → foretold (reading o).refusal ≡ 0
-reading-later (declined c) h = h
-reading-later (answered f) h = h
-
 -- ---- attach
 
 pub foretells : Foretells
@@ -139,5 +134,5 @@ foretells f = go (plan_of f) refl
         record {
           same_length = written-size ss (record { buffer = zeroed f.buffer f.size m; size = m });
           same_count = refl;
-          same_refusal = reading-later (tables image log) (tables-later image log);
+          same_refusal = tables-later image log;
         }

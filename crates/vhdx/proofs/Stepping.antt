@@ -14,7 +14,7 @@ use Rattle.vhdx_log.specs.Plan.{plan}
 use Rattle.vhdx_steps.specs.Steps.{File, runs, steps, chosen, single}
 use Rattle.vhdx_steps.specs.Calls.{file}
 use Rattle.vhdx_replay.specs.Planned.{Planned}
-use Rattle.vhdx_steps.specs.declared.Stepped.{Stepped}
+use Rattle.vhdx_steps.specs.Stepped.{Stepped}
 use Rattle.vhdx_replay.proofs.Applying.{planned, plan-is}
 use Rattle.vhdx_replay.proofs.Done.{admitted-size}
 use Rattle.vhdx.specs.Step.{after_step, step_answer}

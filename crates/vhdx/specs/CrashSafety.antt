@@ -12,8 +12,7 @@
 -- the file system: a write damages nothing outside its 4,096 bytes, and growth nothing before the old end; a file that was made longer
 -- reads as zeros where nothing was written; and it does not become shorter than at its last flush.
 -- Assumes nothing.
-use Rattle.std.specs.Prelude.{List, ◌↔◌, ◌≡◌, ℕ, ◌≤◌, ◌<◌, length, take, get_or}
-use Rattle.std.proofs.Math.Option.{none}
+use Rattle.std.specs.Prelude.{List, ◌↔◌, ◌≡◌, ℕ, ◌≤◌, ◌<◌, length, take, get_or, None}
 use Rattle.extent.specs.Extent.{part}
 use Rattle.vhdx_header.specs.Current.{first_mib}
 use Rattle.vhdx_walk.specs.Entries.{Sector}
@@ -28,7 +27,7 @@ use Rattle.vhdx.specs.Refusals.{first_row}
 
 -- "A log can be applied where, by the table above, none of 1 to 8 applies to an attach of the file as it came"
 abbrev pub Applicable : File → Type 0
-Applicable o = first_row o ≡ none
+Applicable o = first_row o ≡ None
 
 -- just then the plan is work to do. Proved in proofs/CrashSafety.antt
 abbrev pub PlannedExactlyThen : Type 0

@@ -1,15 +1,29 @@
 -- The plan as a call: what attach would do with a file's log, and nothing done (document 01, "The log", "Work", and "When the gate says
 -- no", 1 to 8).
 -- Assumes nothing.
-use Rattle.std.specs.Prelude.{cond, List, ◌⊎◌, ◌≡◌, ℕ, nat_le, length}
+use Rattle.std.specs.Prelude.{cond, List, ◌⊎◌, ◌≡◌, ℕ, nat_le, length, Result, Ok, Err}
+use Rattle.decision.specs.declared.Refusal.{Refusal}
+use Rattle.decision.specs.Refusal.{number}
 use Rattle.vhdx_log.specs.Work.{Plan, refused, apply}
 use Rattle.vhdx_steps.specs.Steps.{File}
 use Rattle.vhdx_steps.specs.Calls.{plan_of}
-use Rattle.vhdx_close_steps.specs.declared.Closed.{Closed}
-use Rattle.vhdx_close_steps.specs.Close.{close_answer}
-use Rattle.vhdx.specs.declared.Attached.{Attached}
-use Rattle.vhdx.specs.declared.Planned.{Planned}
-use Rattle.vhdx.specs.Attach.{attach_answer}
+use Rattle.vhdx_close_steps.specs.Close.{Closed, close_answer}
+use Rattle.vhdx.specs.declared.Planned.{Planned as Answer}
+use Rattle.vhdx.specs.Attach.{Attached, attach_answer}
+
+-- what plan answers, in numbers
+pub record Planned : Type 0 where
+  -- document 01's, 1 to 8, or 0
+  pub refusal : ℕ
+  -- of the image as attach would leave it
+  pub length : ℕ
+  -- how many sectors the log's replay would write
+  pub count : ℕ
+
+-- the code's answer, n the given length
+abbrev pub planned_numbers : ℕ → Result Answer Refusal → Planned
+planned_numbers n (Err r) = record { refusal = number r; length = n; count = 0 }
+planned_numbers n (Ok p) = record { refusal = 0; length = p.length; count = p.count }
 
 -- n is the given length. At 1 to 8 "the given length and count 0"; else the length that step 0 grows the image to, and "the
 -- definition's steps after step 0"

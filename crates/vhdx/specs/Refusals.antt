@@ -2,8 +2,7 @@
 -- behind them (change request Q-6). The plans decide them by a chain of tests, one behind the other; that the table says the same is
 -- `ByTheTable` and `CloseByTheTable`.
 -- Assumes nothing.
-use Rattle.std.specs.Prelude.{Bool, true, false, cond, not, ◌&&◌, ◌||◌, List, [], ◌∷◌, ◌++◌, ◌≡◌, ℕ, nat_eq, nat_le, nat_lt, length}
-use Rattle.std.proofs.Math.Option.{Option, none, some}
+use Rattle.std.specs.Prelude.{Bool, false, cond, not, ◌&&◌, ◌||◌, List, [], ◌∷◌, ◌++◌, ◌≡◌, ℕ, nat_eq, nat_le, nat_lt, length, Option, None, Some, is_none}
 use Rattle.field.specs.Fields.{number, starts}
 use Rattle.extent.specs.Extent.{mib}
 use Rattle.vhdx_header.specs.declared.Header.{Header}
@@ -26,8 +25,8 @@ pub record Row : Type 0 where
 
 -- "the first that applies is the answer"
 abbrev pub first_of : List Row → Option ℕ
-first_of [] = none
-first_of (r ∷ rs) = cond r.applies (some r.number) (first_of rs)
+first_of [] = None
+first_of (r ∷ rs) = cond r.applies (Some r.number) (first_of rs)
 
 -- ---- what the rows speak of
 
@@ -37,7 +36,7 @@ header_in f at = contents at (header_at (first_mib f.buffer) at)
 
 -- the active sequence of the log that a header names; none where the log identifier is zero
 unfoldable pub active_of : File → Header → Option Sequence
-active_of f h = cond (nat_eq (number h.log_guid) 0) none (active_sequence (log_bytes h f.buffer) h.log_guid)
+active_of f h = cond (nat_eq (number h.log_guid) 0) None (active_sequence (log_bytes h f.buffer) h.log_guid)
 
 -- its entries
 unfoldable pub entries_of : File → Header → Sequence → Entries
@@ -45,17 +44,13 @@ entries_of f h q = entries_from (log_bytes h f.buffer) q.start q.more
 
 -- the final length; without a sequence the given one
 abbrev pub final_of : File → Header → Option Sequence → ℕ
-final_of f h none = f.size
-final_of f h (some q) = final_length (entries_of f h q) f.size
+final_of f h None = f.size
+final_of f h (Some q) = final_length (entries_of f h q) f.size
 
 -- a test of what may not be there: it does not apply then
 abbrev pub of_some : {A : Type 0} → Option A → (A → Bool) → Bool
-of_some none t = false
-of_some (some a) t = t a
-
-abbrev pub is_none : {A : Type 0} → Option A → Bool
-is_none none = true
-is_none (some a) = false
+of_some None t = false
+of_some (Some a) t = t a
 
 -- ---- the rows; c is where the current header stands, if there is one
 
@@ -115,8 +110,8 @@ first_row f = first_of (rows (current_offset (first_mib f.buffer)) f)
 
 -- the plan's
 abbrev pub refusal_of_plan : Plan → Option ℕ
-refusal_of_plan (refused c) = some c
-refusal_of_plan (apply m ss) = none
+refusal_of_plan (refused c) = Some c
+refusal_of_plan (apply m ss) = None
 
 -- they are the same; so a plan is an application exactly when none of 1 to 8 applies. Proved in proofs/Refusals.antt
 abbrev pub ByTheTable : Type 0

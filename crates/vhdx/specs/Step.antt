@@ -5,7 +5,7 @@ use Rattle.std.specs.Prelude.{ℕ}
 use Rattle.decision.specs.Refusal.{refusal_of}
 use Rattle.vhdx_steps.specs.Steps.{File, runs, chosen, single}
 use Rattle.vhdx_steps.specs.Calls.{plan_of}
-use Rattle.vhdx_steps.specs.declared.Stepped.{Stepped}
+use Rattle.vhdx_steps.specs.Stepped.{Stepped}
 
 -- none where 1 to 8, 21 or 22 refuse
 unfoldable pub after_step : ℕ → File → File

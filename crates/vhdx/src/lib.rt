@@ -4,38 +4,37 @@
 #![tactic(auto)]
 
 ghost use Rattle.std.specs.Prelude.{◌≡◌, ◌≤◌, length as length_of, take};
+ghost use Rattle.decision.specs.Refusal.{outcome};
 ghost use Rattle.extent.specs.Extent.{mib, part as part_of, onward};
-ghost use Rattle.vhdx_close_steps.specs.Close.{after_close, close_answer, after_close_step, close_step_answer};
-ghost use Rattle.vhdx_map.specs.Lookup.{lookup as lookup_of, outcome};
+ghost use Rattle.vhdx_close_steps.specs.Close.{after_close, close_answer, closed_numbers, after_close_step, close_step_answer};
+ghost use Rattle.vhdx_map.specs.Lookup.{lookup as lookup_of};
 ghost use Rattle.vhdx_parent.specs.Key.{key_extent};
 ghost use Rattle.vhdx_steps.specs.Calls.{file};
-ghost use Rattle.vhdx_tables.specs.Tables.{tables, reading};
-ghost use Rattle.vhdx.specs.Attach.{after_attach, told, attach_answer};
-ghost use Rattle.vhdx.specs.Plan.{plan_answer};
+ghost use Rattle.vhdx_steps.specs.Stepped.{stepped_numbers};
+ghost use Rattle.vhdx_tables.specs.Tables.{tables};
+ghost use Rattle.vhdx.specs.Attach.{after_attach, told, attach_answer, attached_numbers};
+ghost use Rattle.vhdx.specs.Plan.{plan_answer, planned_numbers};
 ghost use Rattle.vhdx.specs.Step.{after_step, step_answer};
 
+use decision::Refusal;
 use extent::Extent;
 use vhdx_close_steps::Closed;
 use vhdx_facts::Facts;
 use vhdx_log::Work;
-use vhdx_steps::Stepped;
+use vhdx_map::Place;
 
-#[derive(Clone, Copy)]
+#[derive(Clone, Copy, Debug, PartialEq, Eq, Drop)]
 pub struct Attached {
-    // document 01's number, or 0
-    pub refusal: u64,
     // of the image as attach leaves it
     pub length: u64,
     // how many sectors the log's replay wrote
     pub count: u64,
-    // all zero on a refusal
-    pub facts: Facts,
+    // or document 01's refusal: 1 to 8 leave the log as it is, 9 to 15 leave it applied
+    pub facts: Result<Facts, Refusal>,
 }
 
-#[derive(Clone, Copy)]
+#[derive(Clone, Copy, Debug, PartialEq, Eq, Drop)]
 pub struct Planned {
-    // document 01's number, 1 to 8, or 0
-    pub refusal: u64,
     // of the image as attach would leave it
     pub length: u64,
     // how many sectors the log's replay would write
@@ -45,17 +44,16 @@ pub struct Planned {
 // Applies the log of the image that is the buffer's first length bytes, and reads its tables. What 1 to 8 refuse is decided
 // before anything is written.
 pub fn attach(buffer: &mut [u8], length: u64) -> Attached
-    ensures value { result ≡ attach_answer (file buffer.old length) }
+    ensures value { attached_numbers result ≡ attach_answer (file buffer.old length) }
     ensures buffer_after { buffer.new ≡ (after_attach (file buffer.old length)).buffer }
 {
     match vhdx_log::plan(buffer, length) {
-        vhdx_log::Answer::Refused(number) => Attached {
-            refusal: number,
+        Err(refusal) => Attached {
             length,
             count: 0,
-            facts: vhdx_facts::none(),
+            facts: Err(refusal),
         },
-        vhdx_log::Answer::Apply(work) => {
+        Ok(work) => {
             let log = vhdx_replay::log_extent(buffer, length);
             vhdx_replay::first_steps(buffer, length, log, work, work.count);
             read(buffer, log, work)
@@ -66,85 +64,68 @@ pub fn attach(buffer: &mut [u8], length: u64) -> Attached
 // The tables of an image whose log, which is here, is applied.
 fn read(buffer: &[u8], log: Extent, work: Work) -> Attached
     requires { (mib ≤ work.length) × (work.length ≤ length_of buffer.now) }
-    ensures { result ≡ told (reading (tables (take work.length buffer.now) log)) work.length work.count }
+    ensures { attached_numbers result ≡ told (tables (take work.length buffer.now) log) work.length work.count }
 {
     let end = work.length as usize;
-    let reading = vhdx_tables::read(&buffer[..end], log);
-    let facts = reading.facts;
     Attached {
-        refusal: reading.refusal,
         length: work.length,
         count: work.count,
-        facts,
+        facts: vhdx_tables::read(&buffer[..end], log),
     }
 }
 
 // What attach would do, without doing it: reads the headers and the log, never writes, and takes time linear in the log.
-// Refusals 9 to 15 are not foretold: they judge the tables as the log leaves them.
-pub fn plan(buffer: &[u8], length: u64) -> Planned
-    ensures { result ≡ plan_answer (file buffer.now length) }
+// Refuses 1 to 8; 9 to 15 are not foretold: they judge the tables as the log leaves them.
+pub fn plan(buffer: &[u8], length: u64) -> Result<Planned, Refusal>
+    ensures { planned_numbers length result ≡ plan_answer (file buffer.now length) }
 {
-    match vhdx_log::plan(buffer, length) {
-        vhdx_log::Answer::Refused(refusal) => Planned {
-            refusal,
-            length,
-            count: 0,
-        },
-        vhdx_log::Answer::Apply(planned) => Planned {
-            refusal: 0,
-            length: planned.length,
-            count: planned.count,
-        },
-    }
+    let planned = vhdx_log::plan(buffer, length)?;
+    Ok(Planned {
+        length: planned.length,
+        count: planned.count,
+    })
 }
 
-// Does step k of the replay alone: 0 grows the image, k writes sector k. The time it takes is that of the plan and of one
-// sector.
-pub fn step(buffer: &mut [u8], length: u64, k: u64) -> Stepped
-    ensures value { result ≡ step_answer k (file buffer.old length) }
+// Does step k of the replay alone: 0 grows the image, k writes sector k. Answers the length after it. The time it takes is that of the
+// plan and of one sector.
+pub fn step(buffer: &mut [u8], length: u64, k: u64) -> Result<u64, Refusal>
+    ensures value { stepped_numbers length result ≡ step_answer k (file buffer.old length) }
     ensures buffer_after { buffer.new ≡ (after_step k (file buffer.old length)).buffer }
 {
-    match vhdx_log::plan(buffer, length) {
-        vhdx_log::Answer::Refused(number) => Stepped {
-            refusal: number,
-            length,
-        },
-        vhdx_log::Answer::Apply(work) => {
-            let log = vhdx_replay::log_extent(buffer, length);
-            if k == 0 {
-                vhdx_replay::first_steps(buffer, length, log, work, 0);
-                return Stepped {
-                    refusal: 0,
-                    length: work.length,
-                };
-            }
-            Stepped {
-                refusal: vhdx_replay::one_sector(buffer, length, log, work, k - 1),
-                length,
-            }
-        }
+    let work = vhdx_log::plan(buffer, length)?;
+    let log = vhdx_replay::log_extent(buffer, length);
+    if k == 0 {
+        vhdx_replay::first_steps(buffer, length, log, work, 0);
+        return Ok(work.length);
     }
+    vhdx_replay::one_sector(buffer, length, log, work, k - 1)?;
+    Ok(length)
 }
 
 // Closes the log for good: applies it as attach does, then rewrites the header that is not current, with no log and with this
 // file-write identifier. No table is read.
-pub fn close(buffer: &mut [u8], length: u64, identifier: &[u8; 16]) -> Closed
-    ensures value { result ≡ close_answer identifier.now (file buffer.old length) }
+pub fn close(buffer: &mut [u8], length: u64, identifier: &[u8; 16]) -> Result<Closed, Refusal>
+    ensures value { closed_numbers length result ≡ close_answer identifier.now (file buffer.old length) }
     ensures buffer_after { buffer.new ≡ (after_close identifier.now (file buffer.old length)).buffer }
 {
     vhdx_close::close(buffer, length, identifier)
 }
 
-// Does step k of closing alone: those of the replay, then the header's.
-pub fn close_step(buffer: &mut [u8], length: u64, identifier: &[u8; 16], k: u64) -> Stepped
-    ensures value { result ≡ close_step_answer identifier.now k (file buffer.old length) }
+// Does step k of closing alone: those of the replay, then the header's. Answers the length after it.
+pub fn close_step(
+    buffer: &mut [u8],
+    length: u64,
+    identifier: &[u8; 16],
+    k: u64,
+) -> Result<u64, Refusal>
+    ensures value { stepped_numbers length result ≡ close_step_answer identifier.now k (file buffer.old length) }
     ensures buffer_after { buffer.new ≡ (after_close_step identifier.now k (file buffer.old length)).buffer }
 {
     vhdx_close::close_step(buffer, length, identifier, k)
 }
 
 // Where the bytes of a sector are, by the facts that attach answered.
-pub fn lookup(facts: Facts, buffer: &[u8], length: u64, sector: u64) -> vhdx_map::Answer
+pub fn lookup(facts: Facts, buffer: &[u8], length: u64, sector: u64) -> Result<Place, Refusal>
     ensures { outcome result ≡ lookup_of facts buffer.now length sector }
 {
     vhdx_map::lookup(facts, buffer, length, sector)

@@ -19,8 +19,8 @@ use Rattle.vhdx_log.specs.Plan.{plan}
 use Rattle.vhdx_steps.specs.Buffer.{put}
 use Rattle.vhdx_steps.specs.Steps.{Step, grow, write, run, runs, end, steps, admitted, chosen, steps_of, single}
 use Rattle.vhdx_steps.specs.Calls.{file}
-use Rattle.vhdx_close_steps.specs.declared.Closed.{Closed}
-use Rattle.vhdx_steps.specs.declared.Stepped.{Stepped}
+use Rattle.vhdx_close_steps.specs.Close.{Closed}
+use Rattle.vhdx_steps.specs.Stepped.{Stepped}
 use Rattle.vhdx_close.specs.declared.Job.{Job}
 use Rattle.vhdx_rewrite.specs.Rewrite.{closed_header}
 use Rattle.vhdx_close_steps.specs.Close.{close_plan, after_close, after_close_step, closed_by, close_answer, close_step_answer}

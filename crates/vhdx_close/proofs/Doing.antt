@@ -9,12 +9,13 @@ use native.Mathlib.Omega.{arith}
 use lib.Dec.{eqb, ltb}
 use lib.ListN.{take}
 use borrow.Author.Tests.{ltb-true}
-use Rattle.decision.specs.Refusal.{check}
+use Rattle.std.specs.Prelude.{Result, Ok, Err}
+use Rattle.decision.specs.declared.Refusal.{Refusal}
+use Rattle.decision.specs.declared.Refusal.TheVariants.{SequenceNumberSpent}
+use Rattle.decision.specs.Refusal.{number as number_of, check}
 use Rattle.field.specs.Fields.{number}
 use Rattle.vhdx_header.specs.Header.{sequence_number_of}
 use Rattle.vhdx_header.specs.declared.Header.{Header}
-use Rattle.vhdx_header.specs.declared.Answer.{Answer as HeaderAnswer}
-use Rattle.vhdx_header.specs.declared.Answer.TheVariants.{Refused as HeaderRefused, Current}
 use Rattle.vhdx_header.specs.Current.{header_at, first_mib, current_header, other_slot}
 use Rattle.vhdx_header.proofs.Laws.{accepted}
 use Rattle.vhdx_header.proofs.Standing.{standing}
@@ -27,8 +28,6 @@ use Rattle.vhdx_steps.specs.Calls.{file}
 use Rattle.vhdx_replay.proofs.Applying.{planned, plan-is}
 use Rattle.vhdx_replay.proofs.Done.{done, same-buffer, long, same_start}
 use Rattle.vhdx_close.specs.declared.Job.{Job}
-use Rattle.vhdx_close.specs.declared.Ending.{Ending}
-use Rattle.vhdx_close.specs.declared.Ending.TheVariants.{Nothing, TooGreat, Rewrite}
 use Rattle.vhdx_rewrite.specs.Rewrite.{greatest, closed_header}
 use Rattle.vhdx_close_steps.specs.Close.{slot_in, header_sector, with_header, closing, close_plan, after_close}
 use Rattle.vhdx_rewrite.specs.Writing.{Closable, header_written}
@@ -38,44 +37,44 @@ use Rattle.vhdx_close_steps.proofs.Order.{runs-snoc}
 -- ---- what is decided
 
 -- the plan by what comes behind the last sector
-plan_behind : Ending → Plan → Sector → Plan
+plan_behind : Result Bool Refusal → Plan → Sector → Plan
 plan_behind e (refused n) c = refused n
-plan_behind Nothing (apply m ss) c = apply m ss
-plan_behind TooGreat (apply m ss) c = refused 23
-plan_behind Rewrite (apply m ss) c = apply m (ss ++ (c ∷ []))
+plan_behind (Err r) (apply m ss) c = refused (number_of r)
+plan_behind (Ok false) (apply m ss) c = apply m ss
+plan_behind (Ok true) (apply m ss) c = apply m (ss ++ (c ∷ []))
 
 behind : (h : Header) (c : Sector) (p : Plan) → with_header h c p ≡ plan_behind (ending_of h) p c
 unfolding plan_behind
 behind h c (refused n) = refl
 behind h c (apply m ss) = go (eqb (number h.log_guid) 0) (ltb h.sequence_number greatest)
   where
-    go : (s t : Bool) → cond s (apply m ss) (check t (refused 23) (apply m (ss ++ (c ∷ [])))) ≡ plan_behind (cond s Nothing (cond t Rewrite TooGreat)) (apply m ss) c
+    go : (s t : Bool) → cond s (apply m ss) (check t (refused 23) (apply m (ss ++ (c ∷ [])))) ≡ plan_behind (cond s (Ok false) (cond t (Ok true) (Err SequenceNumberSpent))) (apply m ss) c
     go true t = refl
     go false true = refl
     go false false = refl
 
 module _ (identifier b : List ℕ) (n : ℕ) where
-  pub no_header : {c : ℕ} → HeaderRefused c ≡ current_header b n → refused c ≡ close_plan identifier (file b n)
+  pub no_header : {r : Refusal} → Err r ≡ current_header b n → refused (number_of r) ≡ close_plan identifier (file b n)
   unfolding close_plan plan plan_header
-  no_header {c} e = ap (λ (a : HeaderAnswer). closing a identifier (file b n) (plan_header a b n)) e
+  no_header e = ap (λ (a : Result Header Refusal). closing a identifier (file b n) (plan_header a b n)) e
 
-  module _ (h : Header) (k : current_header b n ≡ Current h) where
+  module _ (h : Header) (k : current_header b n ≡ Ok h) where
     closes_by : close_plan identifier (file b n) ≡ plan_behind (ending_of h) (plan b n) (header_sector identifier (file b n) h)
     unfolding close_plan
-    closes_by = ap (λ (a : HeaderAnswer). closing a identifier (file b n) (plan b n)) k ∙ behind h (header_sector identifier (file b n) h) (plan b n)
+    closes_by = ap (λ (a : Result Header Refusal). closing a identifier (file b n) (plan b n)) k ∙ behind h (header_sector identifier (file b n) h) (plan b n)
 
     pub no-plan : {c : ℕ} → refused c ≡ plan b n → refused c ≡ close_plan identifier (file b n)
     unfolding plan_behind
     no-plan {c} e = sym (closes_by ∙ ap (λ (p : Plan). plan_behind (ending_of h) p (header_sector identifier (file b n) h)) (sym e) ∙ go (ending_of h))
       where
-        go : (x : Ending) → plan_behind x (refused c) (header_sector identifier (file b n) h) ≡ refused c
-        go Nothing = refl
-        go TooGreat = refl
-        go Rewrite = refl
+        go : (x : Result Bool Refusal) → plan_behind x (refused c) (header_sector identifier (file b n) h) ≡ refused c
+        go (Err r) = refl
+        go (Ok false) = refl
+        go (Ok true) = refl
 
-    pub too-great : {m : ℕ} {ss : List Sector} → plan b n ≡ apply m ss → TooGreat ≡ ending_of h → refused 23 ≡ close_plan identifier (file b n)
+    pub too-great : {m : ℕ} {ss : List Sector} {r : Refusal} → plan b n ≡ apply m ss → Err r ≡ ending_of h → refused (number_of r) ≡ close_plan identifier (file b n)
     unfolding plan_behind
-    too-great e x = sym (closes_by ∙ ap₂ (λ (y : Ending) (p : Plan). plan_behind y p (header_sector identifier (file b n) h)) (sym x) e)
+    too-great e x = sym (closes_by ∙ ap₂ (λ (y : Result Bool Refusal) (p : Plan). plan_behind y p (header_sector identifier (file b n) h)) (sym x) e)
 
 -- ---- the work, done
 
@@ -94,19 +93,19 @@ module _ (identifier b : List ℕ) (n : ℕ) (job : Job) (d : Doable b n job) wh
   unfolding plan_behind
   plain-plan r =
       closes_by identifier b n d.header d.current
-      ∙ ap₂ (λ (x : Ending) (p : Plan). plan_behind x p (header_sector identifier (file b n) d.header)) (d.ends ∙ ap (λ (t : Bool). cond t Rewrite Nothing) r) log-plan
+      ∙ ap₂ (λ (x : Result Bool Refusal) (p : Plan). plan_behind x p (header_sector identifier (file b n) d.header)) (d.ends ∙ ap Ok r) log-plan
       ∙ sym log-plan
 
   pub header-plan : job.rewrite ≡ true → close_plan identifier (file b n) ≡ apply job.work.length (ss ++ (c ∷ []))
   unfolding plan_behind c
   header-plan r =
       closes_by identifier b n d.header d.current
-      ∙ ap₂ (λ (x : Ending) (p : Plan). plan_behind x p (header_sector identifier (file b n) d.header)) (d.ends ∙ ap (λ (t : Bool). cond t Rewrite Nothing) r) log-plan
+      ∙ ap₂ (λ (x : Result Bool Refusal) (p : Plan). plan_behind x p (header_sector identifier (file b n) d.header)) (d.ends ∙ ap Ok r) log-plan
 
   pub below : job.rewrite ≡ true → sequence_number_of (slot_in (file b n) d.header.slot) < greatest
-  below r = go (eqb (number d.header.log_guid) 0) (ltb d.header.sequence_number greatest) refl (d.ends ∙ ap (λ (t : Bool). cond t Rewrite Nothing) r)
+  below r = go (eqb (number d.header.log_guid) 0) (ltb d.header.sequence_number greatest) refl (d.ends ∙ ap Ok r)
     where
-      go : (s t : Bool) → ltb d.header.sequence_number greatest ≡ t → cond s Nothing (cond t Rewrite TooGreat) ≡ Rewrite → sequence_number_of (slot_in (file b n) d.header.slot) < greatest
+      go : (s t : Bool) → ltb d.header.sequence_number greatest ≡ t → cond s (Ok false) (cond t (Ok true) (Err SequenceNumberSpent)) ≡ Ok true → sequence_number_of (slot_in (file b n) d.header.slot) < greatest
       go true t e x = let z : ◌≡◌ {A = ℕ} 0 1 = cc in absurd (omega arith)
       go false false e x = let z : ◌≡◌ {A = ℕ} 0 1 = cc in absurd (omega arith)
       go false true e x =

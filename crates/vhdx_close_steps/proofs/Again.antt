@@ -1,6 +1,8 @@
 -- The plan of closing is made again from every file that an unfinished close leaves; and once the header is written, closing has
 -- nothing to do.
 -- Assumes nothing.
+use Rattle.std.specs.Prelude.{Result, Ok}
+use Rattle.decision.specs.declared.Refusal.{Refusal}
 use mathlib.Core.Path.{◌≡◌, sym, ap, subst, ◌∙◌}
 use mathlib.Core.Bool.{true}
 use mathlib.Core.List.{List, []}
@@ -15,8 +17,6 @@ use Rattle.field.specs.Fields.{Bytes, number, starts}
 use Rattle.field.proofs.Bytes.{bytes_take, bytes_drop}
 use Rattle.extent.specs.Extent.{mib}
 use Rattle.vhdx_header.specs.declared.Header.{Header}
-use Rattle.vhdx_header.specs.declared.Answer.{Answer}
-use Rattle.vhdx_header.specs.declared.Answer.TheVariants.{Current}
 use Rattle.vhdx_header.specs.Header.{sequence_number_of, valid_header, field_rules, contents}
 use Rattle.vhdx_header.specs.Current.{vhdxfile, header_at, first_mib, current_header, other_slot}
 use Rattle.vhdx_header.proofs.Laws.{accepted}
@@ -47,7 +47,7 @@ begins-same b b' h' h s =
 
 -- ---- a file whose plan applies
 
-module _ (identifier : List ℕ) (o : File) (h : Header) (k : current_header o.buffer o.size ≡ Current h) {m : ℕ} {ss : List Sector} (e : plan_of o ≡ apply m ss) where
+module _ (identifier : List ℕ) (o : File) (h : Header) (k : current_header o.buffer o.size ≡ Ok h) {m : ℕ} {ss : List Sector} (e : plan_of o ≡ apply m ss) where
   stands : Standing (first_mib o.buffer) h
   stands = standing o.buffer o.size k
 
@@ -110,7 +110,7 @@ module _ (identifier : List ℕ) (o : File) (h : Header) (k : current_header o.b
             same = ap (contents h.slot) current-kept ∙ stands.same;
           }
 
-      pub still-current : current_header f.buffer f.size ≡ Current h
+      pub still-current : current_header f.buffer f.size ≡ Ok h
       still-current =
           let a = accepted o.buffer o.size k in
           current-by f.buffer f.size h (omega arith) (omega (arith, a.holds_first)) (omega (arith, a.inside)) stands-still
@@ -119,7 +119,7 @@ module _ (identifier : List ℕ) (o : File) (h : Header) (k : current_header o.b
       plan-still =
           plan-again-by o.buffer f.buffer longer below fits
           (λ h' k'. let same : h ≡ h' = cc (sym k ∙ k') in subst (λ (x : Header). log_bytes x f.buffer ≡ log_bytes x o.buffer) same log-same)
-          (λ h' k'. let same : h ≡ h' = cc (sym k ∙ k') in still-current ∙ ap Current same)
+          (λ h' k'. let same : h ≡ h' = cc (sym k ∙ k') in still-current ∙ ap Ok same)
           e
 
       pub close-again : close_plan identifier f ≡ close_plan identifier o
@@ -166,7 +166,7 @@ module _ (identifier : List ℕ) (o : File) (h : Header) (k : current_header o.b
             same = ap (contents (other_slot h.slot)) written;
           }
 
-      new-current : current_header f.buffer f.size ≡ Current now-current
+      new-current : current_header f.buffer f.size ≡ Ok now-current
       new-current =
           let a = accepted o.buffer o.size k in
           current-by f.buffer f.size now-current (omega arith) (omega (arith, a.holds_first))
@@ -189,7 +189,7 @@ module _ (identifier : List ℕ) (o : File) (h : Header) (k : current_header o.b
       plan_new : plan_of f ≡ apply m []
       unfolding plan plan_header plan_log
       plan_new =
-          ap (λ (a : Answer). plan_header a f.buffer f.size) new-current
+          ap (λ (a : Result Header Refusal). plan_header a f.buffer f.size) new-current
           ∙ rw no-log fits-here
 
       pub gone : HasNoLog f

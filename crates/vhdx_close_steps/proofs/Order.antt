@@ -1,6 +1,8 @@
 -- A log that is closed by calls that may be interrupted, or lost in a power failure: either the header is not yet written, and the steps
 -- below the next one in order are done (`Open`); or it is, and the file is what an undisturbed close leaves (`Closed`).
 -- Assumes nothing.
+use Rattle.std.specs.Prelude.{Result, Ok}
+use Rattle.decision.specs.declared.Refusal.{Refusal}
 use mathlib.Core.Path.{◌≡◌, refl, sym, ap, subst, ◌∙◌}
 use mathlib.Core.Bool.{Bool, true, false}
 use mathlib.Core.List.{List, [], ◌∷◌, ◌++◌, map}
@@ -17,8 +19,6 @@ use Rattle.decision.specs.Refusal.{Outcome, refused, answered, check}
 use Rattle.field.specs.Fields.{Bytes, number}
 use Rattle.extent.specs.Extent.{mib}
 use Rattle.vhdx_header.specs.declared.Header.{Header}
-use Rattle.vhdx_header.specs.declared.Answer.{Answer}
-use Rattle.vhdx_header.specs.declared.Answer.TheVariants.{Current}
 use Rattle.vhdx_header.specs.Header.{valid_header}
 use Rattle.vhdx_header.specs.Current.{current_header, other_slot}
 use Rattle.vhdx_header.proofs.Laws.{accepted}
@@ -98,7 +98,7 @@ back_one m s ts {f} {g} e b a =
       rest = λ i l n. a.rest i l (λ x. n (inr x)) ∙ put-out g.buffer s.offset s.bytes bg i (λ x. n (inl x));
     }
 
-module _ (identifier : List ℕ) (sixteen : length identifier ≡ 16) (o : File) (h : Header) (k : current_header o.buffer o.size ≡ Current h)
+module _ (identifier : List ℕ) (sixteen : length identifier ≡ 16) (o : File) (h : Header) (k : current_header o.buffer o.size ≡ Ok h)
     {m : ℕ} {ss : List Sector} (e : plan_of o ≡ apply m ss) where
   R : Reads (Kept (extent_of h)) o m ss
   R = reads o h k e
@@ -319,7 +319,7 @@ module _ (identifier : List ℕ) (sixteen : length identifier ≡ 16) (o : File)
     unfolding close_plan
     plan-is = rw (k, e, log, raisable)
 
-    open-current : (n : ℕ) (f : File) → Open n f → current_header f.buffer f.size ≡ Current h
+    open-current : (n : ℕ) (f : File) → Open n f → current_header f.buffer f.size ≡ Ok h
     unfolding Dormant
     open-current n f q = still-current identifier o h k e f (q.inv.capacity R.fits) q.inv.from q.inv.to (untouched f q.inv) q.dormant
 
@@ -587,7 +587,7 @@ module _ (identifier : List ℕ) (sixteen : length identifier ≡ 16) (o : File)
     settled-by : (n : ℕ) (f g : File) → Open n f → WholeIfValid identifier f g → Settled g
     unfolding Settled Dormant
     settled-by n f g q w v =
-        let u = subst (λ (x : Answer). WholeBy x identifier f g) (open-current log raisable n f q) w in
+        let u = subst (λ (x : Result Header Refusal). WholeBy x identifier f g) (open-current log raisable n f q) w in
         ⊎_elim
         (λ x. inl (x ∙ q.dormant (sym (ap valid_header x) ∙ v)))
         (λ x. inr (x ∙ ap (λ (y : List ℕ). closed_header y identifier) (current-kept identifier o h k e f (q.inv.capacity R.fits) q.inv.from q.inv.to (untouched f q.inv))))
@@ -637,7 +637,7 @@ module _ (identifier : List ℕ) (sixteen : length identifier ≡ 16) (o : File)
     failed-on n f g (inl q) (sectors-lost l s) =
         inl record {
           inv = both m ts q.inv (rw (open-plan log raisable n f q) at l);
-          dormant = dormant-on f g (subst (λ (x : Answer). SlotKeptBy x f g) (open-current log raisable n f q) s) q.dormant;
+          dormant = dormant-on f g (subst (λ (x : Result Header Refusal). SlotKeptBy x f g) (open-current log raisable n f q) s) q.dormant;
           progress = tt;
         }
     failed-on n f g (inr a) (sectors-lost l s) =

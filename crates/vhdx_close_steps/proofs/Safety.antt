@@ -1,6 +1,8 @@
 -- Demand 3 for closing, proved: by whether the original's log identifier is zero, its sequence number is at its greatest value, or
 -- there is a log to close.
 -- Assumes nothing.
+use Rattle.std.specs.Prelude.{Result, Ok, Err}
+use Rattle.decision.specs.declared.Refusal.{Refusal}
 use mathlib.Core.Path.{◌≡◌, refl, sym, ap, subst, ◌∙◌}
 use mathlib.Core.Bool.{Bool, true, false, cond, ◌&&◌}
 use mathlib.Core.List.{List, [], ◌∷◌, ◌++◌}
@@ -14,8 +16,6 @@ use Rattle.field.specs.Fields.{number}
 use Rattle.extent.specs.declared.Extent.{Extent}
 use Rattle.extent.specs.Extent.{part}
 use Rattle.vhdx_header.specs.declared.Header.{Header}
-use Rattle.vhdx_header.specs.declared.Answer.{Answer}
-use Rattle.vhdx_header.specs.declared.Answer.TheVariants.{Refused as HeaderRefused, Current}
 use Rattle.vhdx_header.specs.Current.{current_header, other_slot}
 use Rattle.vhdx_header.proofs.Laws.{accepted, read_again}
 use Rattle.vhdx_walk.specs.Entries.{Sector, length_limit}
@@ -59,9 +59,9 @@ pub refused-either : (identifier : List ℕ) (f : File) (x : ℕ) → plan_of f 
 unfolding close_plan
 refused-either identifier f x e = ap (closing (current_header f.buffer f.size) identifier f) e ∙ go (current_header f.buffer f.size)
   where
-    go : (a : Answer) → closing a identifier f (unplanned x) ≡ unplanned x
-    go (HeaderRefused n) = refl
-    go (Current h) = refl
+    go : (a : Result Header Refusal) → closing a identifier f (unplanned x) ≡ unplanned x
+    go (Err r) = refl
+    go (Ok h) = refl
 
 -- a log shortens no file
 final-grows : (f : File) → f.size ≤ final_length_of f
@@ -71,7 +71,7 @@ final-grows f = go (plan_of f) refl
     go (unplanned x) e = omega arith
     go (apply m ss) e = let x = header_of f.buffer f.size e in (reads f x.0 x.1 e).grows
 
-module _ (identifier : List ℕ) (o : File) (h : Header) (k : current_header o.buffer o.size ≡ Current h) {m : ℕ} {ss : List Sector} (e : plan_of o ≡ apply m ss) where
+module _ (identifier : List ℕ) (o : File) (h : Header) (k : current_header o.buffer o.size ≡ Ok h) {m : ℕ} {ss : List Sector} (e : plan_of o ≡ apply m ss) where
   R : Reads (Kept (extent_of h)) o m ss
   R = reads o h k e
 
@@ -118,7 +118,7 @@ module _ (identifier : List ℕ) (o : File) (h : Header) (k : current_header o.b
     again : (f : File) → Lost m ss o f → close_plan identifier f ≡ apply m ss
     again f v = close-again identifier o h k e f (v.capacity R.fits) v.from v.to (λ i x. untouched R v i x.0) (λ y. same-slot f v) ∙ no-log-plan
 
-    current-again : (f : File) → Lost m ss o f → current_header f.buffer f.size ≡ Current h
+    current-again : (f : File) → Lost m ss o f → current_header f.buffer f.size ≡ Ok h
     current-again f v = still-current identifier o h k e f (v.capacity R.fits) v.from v.to (λ i x. untouched R v i x.0) (λ y. same-slot f v)
 
     ran-steps : (f g : File) → Lost m ss o f → Ran (steps (close_plan identifier f)) f g → Lost m ss o g
@@ -174,7 +174,7 @@ module _ (identifier : List ℕ) (o : File) (h : Header) (k : current_header o.b
     unfolding close_plan Same
     still-refused f v = go (plan_of f)
       where
-        current : current_header f.buffer f.size ≡ Current h
+        current : current_header f.buffer f.size ≡ Ok h
         current =
             let a = accepted o.buffer o.size k in
             let b : o.size ≤ length f.buffer = v.capacity a.fits in
@@ -183,7 +183,7 @@ module _ (identifier : List ℕ) (o : File) (h : Header) (k : current_header o.b
             v.from (omega (arith, v.to))
 
         go : (p : Plan) → (x : ℕ) × (closing (current_header f.buffer f.size) identifier f p ≡ unplanned x)
-        go (unplanned x) = (x, ap (λ (a : Answer). closing a identifier f (unplanned x)) current)
+        go (unplanned x) = (x, ap (λ (a : Result Header Refusal). closing a identifier f (unplanned x)) current)
         go (apply n us) = (23, rw (current, log, top))
 
     ran_on : {f g : File} → Same f → (Ran (steps (close_plan identifier f)) f g → Same g) × ((j : ℕ) → Ran (single (close_plan identifier f) j f.size) f g → Same g)
@@ -262,7 +262,7 @@ close-power-safe identifier sixteen named-bytes o d f n bytes m ss e y =
     let x = header_of o.buffer o.size e in
     go x.0 x.1 (eqb (number x.0.log_guid) 0) (ltb x.0.sequence_number greatest) refl refl
   where
-    go : (h : Header) (k : current_header o.buffer o.size ≡ Current h) (s t : Bool) → eqb (number h.log_guid) 0 ≡ s → ltb h.sequence_number greatest ≡ t → Recloses identifier o f
+    go : (h : Header) (k : current_header o.buffer o.size ≡ Ok h) (s t : Bool) → eqb (number h.log_guid) 0 ≡ s → ltb h.sequence_number greatest ≡ t → Recloses identifier o f
     go h k true t p q = no-log identifier o h k e p f y
     go h k false false p q = at_the_top identifier o h k e p q f y
     go h k false true p q = with-log identifier o h k e sixteen named-bytes bytes p q f y
@@ -291,7 +291,7 @@ module _ (identifier : List ℕ) (sixteen : length identifier ≡ 16) (f : File)
       let x = header_of f.buffer f.size e in
       go x.0 x.1 (eqb (number x.0.log_guid) 0) (ltb x.0.sequence_number greatest) refl refl
     where
-      go : (h : Header) (k : current_header f.buffer f.size ≡ Current h) (s t : Bool) → eqb (number h.log_guid) 0 ≡ s → ltb h.sequence_number greatest ≡ t → (f.size ≤ m) × (m ≤ length f.buffer) × EndBy m us
+      go : (h : Header) (k : current_header f.buffer f.size ≡ Ok h) (s t : Bool) → eqb (number h.log_guid) 0 ≡ s → ltb h.sequence_number greatest ≡ t → (f.size ≤ m) × (m ≤ length f.buffer) × EndBy m us
       go h k true t p r = let R = reads f h k e in same-fit (sym (no-log-plan identifier f h k e p) ∙ q) (R.grows, R.fits, R.ends)
       go h k false false p r = let z : ◌≡◌ {A = ℕ} 0 1 = cc (sym (refused-plan identifier f h k e p r) ∙ q) in absurd (omega arith)
       go h k false true p r = let R = reads f h k e in same-fit (sym (plan-is identifier sixteen f h k e p r) ∙ q) (R.grows, R.fits, ends identifier sixteen f h k e)
@@ -343,14 +343,14 @@ nothing-beyond-close identifier sixteen f i l = go (close_plan identifier f) ref
 
 -- ---- for good
 
-module _ (identifier : List ℕ) (o : File) (h : Header) (k : current_header o.buffer o.size ≡ Current h) {m : ℕ} {ss : List Sector} (e : plan_of o ≡ apply m ss)
+module _ (identifier : List ℕ) (o : File) (h : Header) (k : current_header o.buffer o.size ≡ Ok h) {m : ℕ} {ss : List Sector} (e : plan_of o ≡ apply m ss)
     (log : eqb (number h.log_guid) 0 ≡ true) where
   none-planned : apply m ss ≡ apply m []
   unfolding plan plan_header plan_log
   none-planned =
       let q : apply_within (length o.buffer) o.size [] ≡ apply m ss =
       ap (λ (t : Bool). cond t (apply_within (length o.buffer) o.size []) (plan_sequence (extent_of h) (log_bytes h o.buffer) o.size (length o.buffer) (active_sequence (log_bytes h o.buffer) h.log_guid))) (sym log)
-      ∙ ap (λ (a : Answer). plan_header a o.buffer o.size) (sym k) ∙ e in
+      ∙ ap (λ (a : Result Header Refusal). plan_header a o.buffer o.size) (sym k) ∙ e in
       let p = passed (leb o.size (length o.buffer) && leb o.size length_limit) 8 (apply o.size []) q in
       cc p.1
 
@@ -377,7 +377,7 @@ closes-for-good identifier sixteen named-bytes o bytes m us q = go (plan_of o) r
         let x = header_of o.buffer o.size e in
         by x.0 x.1 (eqb (number x.0.log_guid) 0) (ltb x.0.sequence_number greatest) refl refl
       where
-        by : (h : Header) (k : current_header o.buffer o.size ≡ Current h) (s t : Bool) → eqb (number h.log_guid) 0 ≡ s → ltb h.sequence_number greatest ≡ t → HasNoLog (after_close identifier o)
+        by : (h : Header) (k : current_header o.buffer o.size ≡ Ok h) (s t : Bool) → eqb (number h.log_guid) 0 ≡ s → ltb h.sequence_number greatest ≡ t → HasNoLog (after_close identifier o)
         by h k true t p r =
             let same : apply m' ss ≡ apply m us = sym (no-log-plan identifier o h k e p) ∙ q in
             let em : m ≡ m' = cc in

@@ -2,10 +2,10 @@
 -- a list without attach's, .. with the same identifier lent every time, the steps in order from 0, none skipped, at the start and after
 -- each cut"). What an interrupted run of steps leaves is `Ran` of vhdx_steps, with the header's slot as one more sector.
 -- Assumes nothing.
-use Rattle.std.specs.Prelude.{true, List, ◌⊎◌, ◌≡◌, ℕ, zero, suc, ◌≤◌}
+use Rattle.std.specs.Prelude.{true, List, ◌⊎◌, ◌≡◌, ℕ, zero, suc, ◌≤◌, Result, Ok, Err}
+use Rattle.decision.specs.declared.Refusal.{Refusal}
 use Rattle.decision.specs.Refusal.{refused}
-use Rattle.vhdx_header.specs.declared.Answer.{Answer as HeaderAnswer}
-use Rattle.vhdx_header.specs.declared.Answer.TheVariants.{Refused as HeaderRefused, Current}
+use Rattle.vhdx_header.specs.declared.Header.{Header}
 use Rattle.vhdx_header.specs.Header.{valid_header}
 use Rattle.vhdx_header.specs.Current.{current_header, other_slot}
 use Rattle.vhdx_steps.specs.Steps.{File, Ran, steps, chosen, single}
@@ -14,9 +14,9 @@ use Rattle.vhdx_close_steps.specs.Close.{slot_in, close_plan, after_close, after
 
 -- "the premise that a half-written header isn't valid", of an interrupted call that takes f to g: where the slot of the header that
 -- isn't current in f holds a valid one in g, it is a whole one, the one that was there or the one that closing writes
-abbrev pub WholeBy : HeaderAnswer → List ℕ → File → File → Type 0
-WholeBy (HeaderRefused c) identifier f g = Unit {0}
-WholeBy (Current h) identifier f g =
+abbrev pub WholeBy : Result Header Refusal → List ℕ → File → File → Type 0
+WholeBy (Err r) identifier f g = Unit {0}
+WholeBy (Ok h) identifier f g =
     valid_header (slot_in g (other_slot h.slot)) ≡ true
     → (slot_in g (other_slot h.slot) ≡ slot_in f (other_slot h.slot)) ⊎ (slot_in g (other_slot h.slot) ≡ closed_header (slot_in f h.slot) identifier)
 

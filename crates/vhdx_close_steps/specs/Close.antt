@@ -2,20 +2,19 @@
 -- header's slot as one more sector behind the last, so the steps of closing are `steps`, `chosen` and `single` of vhdx_steps too.
 -- An identifier is the list of its 16 bytes: the file-write identifier that the caller hands in.
 -- Assumes nothing.
-use Rattle.std.specs.Prelude.{cond, List, [], ◌∷◌, ◌++◌, ℕ, nat_eq, nat_lt}
-use Rattle.decision.specs.Refusal.{check, refusal_of}
+use Rattle.std.specs.Prelude.{cond, List, [], ◌∷◌, ◌++◌, ℕ, nat_eq, nat_lt, Result, Ok, Err}
+use Rattle.decision.specs.declared.Refusal.{Refusal}
+use Rattle.decision.specs.Refusal.{number as number_of, check, refusal_of}
 use Rattle.field.specs.Fields.{number}
 use Rattle.vhdx_header.specs.declared.Header.{Header}
-use Rattle.vhdx_header.specs.declared.Answer.{Answer as HeaderAnswer}
-use Rattle.vhdx_header.specs.declared.Answer.TheVariants.{Refused as HeaderRefused, Current}
 use Rattle.vhdx_header.specs.Current.{header_at, first_mib, current_header, other_slot}
 use Rattle.vhdx_walk.specs.Entries.{Sector}
 use Rattle.vhdx_log.specs.Work.{Plan, refused, apply, count}
-use Rattle.vhdx_steps.specs.declared.Stepped.{Stepped}
+use Rattle.vhdx_steps.specs.Stepped.{Stepped}
 use Rattle.vhdx_steps.specs.Steps.{File, runs, steps, chosen, single}
 use Rattle.vhdx_steps.specs.Calls.{plan_of}
 use Rattle.vhdx_rewrite.specs.Rewrite.{greatest, closed_header}
-use Rattle.vhdx_close_steps.specs.declared.Closed.{Closed}
+use Rattle.vhdx_close_steps.specs.declared.Closed.{Closed as Figures}
 
 -- the header at an offset of a file
 abbrev pub slot_in : File → ℕ → List ℕ
@@ -33,9 +32,9 @@ with_header h c (apply m ss) =
     cond (nat_eq (number h.log_guid) 0) (apply m ss)
     (check (nat_lt h.sequence_number greatest) (refused 23) (apply m (ss ++ (c ∷ []))))
 
-abbrev pub closing : HeaderAnswer → List ℕ → File → Plan → Plan
-closing (HeaderRefused n) identifier f p = p
-closing (Current h) identifier f p = with_header h (header_sector identifier f h) p
+abbrev pub closing : Result Header Refusal → List ℕ → File → Plan → Plan
+closing (Err r) identifier f p = p
+closing (Ok h) identifier f p = with_header h (header_sector identifier f h) p
 
 -- "The call refuses as 1 to 8", then as 23; else the work
 unfoldable pub close_plan : List ℕ → File → Plan
@@ -44,6 +43,20 @@ close_plan identifier f = closing (current_header f.buffer f.size) identifier f 
 -- the file after closing, at a refusal as it was
 unfoldable pub after_close : List ℕ → File → File
 after_close identifier f = runs (steps (close_plan identifier f)) f
+
+-- what closing answers, in numbers
+pub record Closed : Type 0 where
+  -- the refusal's, or 0
+  pub refusal : ℕ
+  -- of the image as closing leaves it
+  pub length : ℕ
+  -- how many sectors the log's replay wrote, the header not counted
+  pub count : ℕ
+
+-- the code's answer, n the given length
+abbrev pub closed_numbers : ℕ → Result Figures Refusal → Closed
+closed_numbers n (Err r) = record { refusal = number_of r; length = n; count = 0 }
+closed_numbers n (Ok c) = record { refusal = 0; length = c.length; count = c.count }
 
 -- g is the file that closing leaves, n the count of the log's sectors: it "answers as attach does in length and count, the header not
 -- counted"; 23 is refused "with 8's image and answers"

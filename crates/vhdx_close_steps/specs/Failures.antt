@@ -4,9 +4,9 @@
 -- Of the caller this supposes one thing more, a flush between the last sector and the header: a header on the disk that says "no log"
 -- before the sectors that the log holds would lose them.
 -- Assumes nothing.
-use Rattle.std.specs.Prelude.{List, ◌≡◌, ℕ, zero}
-use Rattle.vhdx_header.specs.declared.Answer.{Answer as HeaderAnswer}
-use Rattle.vhdx_header.specs.declared.Answer.TheVariants.{Refused as HeaderRefused, Current}
+use Rattle.std.specs.Prelude.{List, ◌≡◌, ℕ, zero, Result, Ok, Err}
+use Rattle.decision.specs.declared.Refusal.{Refusal}
+use Rattle.vhdx_header.specs.declared.Header.{Header}
 use Rattle.vhdx_header.specs.Current.{current_header, other_slot}
 use Rattle.vhdx_log.specs.Work.{sectors_planned}
 use Rattle.vhdx_steps.specs.Steps.{File, length_after, Ran, steps}
@@ -15,9 +15,9 @@ use Rattle.vhdx_close_steps.specs.Close.{slot_in, close_plan}
 use Rattle.vhdx_close_steps.specs.Calls.{WholeIfValid, Call}
 
 -- the slot of the header that isn't current in f is in g as it was
-abbrev pub SlotKeptBy : HeaderAnswer → File → File → Type 0
-SlotKeptBy (HeaderRefused c) f g = Unit {0}
-SlotKeptBy (Current h) f g = slot_in g (other_slot h.slot) ≡ slot_in f (other_slot h.slot)
+abbrev pub SlotKeptBy : Result Header Refusal → File → File → Type 0
+SlotKeptBy (Err r) f g = Unit {0}
+SlotKeptBy (Ok h) f g = slot_in g (other_slot h.slot) ≡ slot_in f (other_slot h.slot)
 
 abbrev pub SlotKept : File → File → Type 0
 SlotKept f g = SlotKeptBy (current_header f.buffer f.size) f g

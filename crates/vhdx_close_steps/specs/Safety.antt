@@ -1,11 +1,10 @@
 -- Demand 3 for closing, power failures too, and that closing closes (change request Q-6). The premise that the log can be applied is
 -- stated by the plan here; `vhdx` states it by document 01's table (specs/CloseSafety.antt there).
 -- Assumes nothing.
-use Rattle.std.specs.Prelude.{List, [], ◌≡◌, ℕ, zero, ◌+◌, ◌≤◌, ◌<◌, length, take, get_or}
+use Rattle.std.specs.Prelude.{List, [], ◌≡◌, ℕ, zero, ◌+◌, ◌≤◌, ◌<◌, length, take, get_or, Ok}
 use Rattle.field.specs.Fields.{number}
 use Rattle.extent.specs.Extent.{mib, part}
 use Rattle.vhdx_header.specs.declared.Header.{Header}
-use Rattle.vhdx_header.specs.declared.Answer.TheVariants.{Current}
 use Rattle.vhdx_header.specs.Current.{current_header, other_slot}
 use Rattle.vhdx_walk.specs.Entries.{Sector}
 use Rattle.vhdx_log.specs.Work.{apply, sectors_planned}
@@ -26,7 +25,7 @@ pub record Recloses (identifier : List ℕ) (o f : File) : Type 0 where
   pub no_shorter : o.size ≤ f.size
   pub same_elsewhere : (i : ℕ) → i < o.size → ¬ Named (sectors_planned (close_plan identifier o)) i → get_or f.buffer i 0 ≡ get_or o.buffer i 0
   -- of the first MiB that slot alone is touched, and the log not at all
-  pub first_kept : (h : Header) → current_header o.buffer o.size ≡ Current h
+  pub first_kept : (h : Header) → current_header o.buffer o.size ≡ Ok h
       → (i : ℕ) → i < mib → ¬ ((other_slot h.slot ≤ i) × (i < other_slot h.slot + 4096)) → get_or f.buffer i 0 ≡ get_or o.buffer i 0
   pub log_kept : part f.buffer (log_extent o.buffer o.size) ≡ part o.buffer (log_extent o.buffer o.size)
 
@@ -54,7 +53,7 @@ NothingBeyondClose =
 -- a file whose log is closed: the current header names none, and an attach plans neither growth nor a sector
 pub record HasNoLog (f : File) : Type 0 where
   pub header : Header
-  pub current : current_header f.buffer f.size ≡ Current header
+  pub current : current_header f.buffer f.size ≡ Ok header
   pub no_identifier : number header.log_guid ≡ 0
   pub no_work : plan_of f ≡ apply f.size []
 

@@ -2,10 +2,9 @@
 // theorems about them. There is no code but for what closing answers.
 #![tactic(auto)]
 
-#[derive(Clone, Copy)]
+// What closing answers where nothing refuses it.
+#[derive(Clone, Copy, Debug, PartialEq, Eq, Drop)]
 pub struct Closed {
-    // the refusal's number, or 0
-    pub refusal: u64,
     // of the image as closing leaves it
     pub length: u64,
     // how many sectors the log's replay wrote, the header not counted

@@ -1,24 +1,23 @@
 -- The clauses of a valid entry, put together as the code tests them: what a failed test says of the whole, what all of them
 -- together say, and what a valid entry keeps to.
 -- Assumes nothing.
-use mathlib.Core.Path.{◌≡◌, sym, ap, ap₂, ◌∙◌}
+use mathlib.Core.Path.{◌≡◌, refl, sym, ap, ap₂, ◌∙◌}
 use mathlib.Core.Bool.{Bool, true, false, ◌&&◌, and-eq-true_iff, and-false, and_assoc}
 use mathlib.Core.List.{List}
-use mathlib.Core.Option.{none, some}
+use Rattle.std.specs.Prelude.{Option, None, Some}
 use Prim.Native.Nat.{ℕ, ◌+◌, ◌-◌, ◌*◌, ◌/◌, ◌≤◌, ◌<◌}
 use native.Mathlib.Omega.{arith}
 use lib.Dec.{eqb}
 use lib.ListN.{length, take}
 use borrow.Author.Tests.{eq-eqb, ne_eqb, lt-leb, le-leb, leb-true}
+use Rattle.std.specs.Bool.{then_some}
 use Rattle.decision.specs.Bounded.{every, only_if}
 use Rattle.decision.proofs.Laws.{only_if-none, only_if-some}
 use Rattle.field.specs.declared.Guid.{Guid}
 use Rattle.crc32c.specs.Crc.{crc, zeroed}
 use Rattle.vhdx_entry.specs.Ring.{ring, sector_at}
-use Rattle.vhdx_entry.specs.Entry.{checksum, entry_length, tail, sequence_number_of, descriptor_count, descriptor_sectors, descriptor, data_before, data_count, size, descriptor_rule, data_sector_rule, header_rule, signature_rule, guid_rule, tail_rule, number_rule, fits_rule, descriptors_rule, entry_length_rule, data_sectors_rule, checksum_rule, valid_entry, contents, entry_at, tally_of}
+use Rattle.vhdx_entry.specs.Entry.{checksum, entry_length, tail, sequence_number_of, descriptor_count, descriptor_sectors, descriptor, data_before, data_count, size, descriptor_rule, data_sector_rule, header_rule, signature_rule, guid_rule, tail_rule, number_rule, fits_rule, descriptors_rule, entry_length_rule, data_sectors_rule, checksum_rule, valid_entry, contents, entry_at}
 use Rattle.vhdx_entry.specs.declared.Entry.{Entry}
-use Rattle.vhdx_entry.specs.declared.body.Tally.{Tally}
-use Rattle.vhdx_entry.specs.declared.body.Tally.TheVariants.{Whole, Broken}
 use Rattle.vhdx_entry.proofs.Laws.{length-ring, first_field}
 
 module _ (r : List ℕ) where
@@ -29,31 +28,31 @@ module _ (r : List ℕ) where
 
   -- ---- the size
 
-  pub too_many : {n : ℕ} → length r ≡ n * 4096 → n < descriptor_sectors (descriptor_count r) → none ≡ only_if (fits_rule r && descriptors_rule r) (size r)
+  pub too_many : {n : ℕ} → length r ≡ n * 4096 → n < descriptor_sectors (descriptor_count r) → None ≡ only_if (fits_rule r && descriptors_rule r) (size r)
   too_many {n} l h =
       sym (ap (λ (b : Bool). only_if (b && descriptors_rule r) (size r)) (lt-leb (size r * 4096) (length r) (omega arith)))
 
-  module _ {count number : ℕ} (p : count ≡ descriptor_count r) (q : number ≡ sequence_number_of r) (t : Tally)
-      (e : tally_of t ≡ only_if (every count (λ i. descriptor_rule number (descriptor r i))) (data_before r count)) where
-    counted : tally_of t ≡ only_if (descriptors_rule r) (data_count r)
+  module _ {count number : ℕ} (p : count ≡ descriptor_count r) (q : number ≡ sequence_number_of r) (t : Option ℕ)
+      (e : t ≡ only_if (every count (λ i. descriptor_rule number (descriptor r i))) (data_before r count)) where
+    counted : t ≡ only_if (descriptors_rule r) (data_count r)
     counted = e ∙ ap₂ only_if (rules-are p q) (ap (data_before r) p)
 
-    pub descriptor-broken : t ≡ Broken → none ≡ only_if (fits_rule r && descriptors_rule r) (size r)
+    pub descriptor-broken : t ≡ None → None ≡ only_if (fits_rule r && descriptors_rule r) (size r)
     descriptor-broken h =
-        sym (ap (λ (b : Bool). only_if b (size r)) (ap (λ (x : Bool). fits_rule r && x) (only_if-none (descriptors_rule r) (data_count r) (sym (ap tally_of h) ∙ counted)) ∙ and-false (fits_rule r)))
+        sym (ap (λ (b : Bool). only_if b (size r)) (ap (λ (x : Bool). fits_rule r && x) (only_if-none (descriptors_rule r) (data_count r) (sym h ∙ counted)) ∙ and-false (fits_rule r)))
 
-    module _ {d : ℕ} (h : t ≡ Whole d) where
+    module _ {d : ℕ} (h : t ≡ Some d) where
       whole : (descriptors_rule r ≡ true) × (d ≡ data_count r)
-      whole = only_if-some (descriptors_rule r) (data_count r) (sym (ap tally_of h) ∙ counted)
+      whole = only_if-some (descriptors_rule r) (data_count r) (sym h ∙ counted)
 
-      pub data-fit : {n front : ℕ} → length r ≡ n * 4096 → front ≡ descriptor_sectors count → front + d ≤ n → some (front + d) ≡ only_if (fits_rule r && descriptors_rule r) (size r)
+      pub data-fit : {n front : ℕ} → length r ≡ n * 4096 → front ≡ descriptor_sectors count → front + d ≤ n → Some (front + d) ≡ only_if (fits_rule r && descriptors_rule r) (size r)
       data-fit {n} {front} l f b =
           let (a, g) = whole in
           let f' : front ≡ descriptor_sectors (descriptor_count r) = f ∙ ap descriptor_sectors p in
-          ap some (ap₂ (λ (x y : ℕ). x + y) f' g)
+          ap Some (ap₂ (λ (x y : ℕ). x + y) f' g)
           ∙ sym (ap₂ (λ (x y : Bool). only_if (x && y) (size r)) (le-leb (size r * 4096) (length r) (omega arith)) a)
 
-      pub data-too-long : {n front : ℕ} → length r ≡ n * 4096 → front ≡ descriptor_sectors count → n < front + d → none ≡ only_if (fits_rule r && descriptors_rule r) (size r)
+      pub data-too-long : {n front : ℕ} → length r ≡ n * 4096 → front ≡ descriptor_sectors count → n < front + d → None ≡ only_if (fits_rule r && descriptors_rule r) (size r)
       data-too-long {n} {front} l f b =
           let (a, g) = whole in
           let f' : front ≡ descriptor_sectors (descriptor_count r) = f ∙ ap descriptor_sectors p in
@@ -110,30 +109,31 @@ valid-parts guid r =
     ap (λ (b : Bool). header_rule guid (length r) r && b) (sym (and_assoc (fits_rule r) (descriptors_rule r) (end_rules r)))
 
 module _ (guid : Guid) (log : List ℕ) (s : ℕ) where
-  nothing-at : valid_entry guid (ring log s) ≡ false → none ≡ entry_at log guid s
+  -- the library's word and the specification's
+  answered : (t : Bool) (e : Entry) → then_some t e ≡ only_if t e
+  answered true e = refl
+  answered false e = refl
+
+  nothing-at : valid_entry guid (ring log s) ≡ false → None ≡ entry_at log guid s
   unfolding entry_at
   nothing-at h = sym (ap (λ (b : Bool). only_if b (contents (ring log s))) h)
-
-  something-at : valid_entry guid (ring log s) ≡ true → {e : Entry} → e ≡ contents (ring log s) → some e ≡ entry_at log guid s
-  unfolding entry_at
-  something-at h p = ap some p ∙ sym (ap (λ (b : Bool). only_if b (contents (ring log s))) h)
 
   module _ {t : Bool} (p : t ≡ header_rule guid (length (ring log s)) (ring log s)) where
     parts : valid_entry guid (ring log s) ≡ (t && (size_rules (ring log s) && end_rules (ring log s)))
     parts = valid-parts guid (ring log s) ∙ ap (λ (b : Bool). b && (size_rules (ring log s) && end_rules (ring log s))) (sym p)
 
-    pub bad-header : t ≡ false → none ≡ entry_at log guid s
+    pub bad-header : t ≡ false → None ≡ entry_at log guid s
     bad-header h = nothing-at (parts ∙ ap (λ (b : Bool). b && (size_rules (ring log s) && end_rules (ring log s))) h)
 
-    module _ (z : Tally) (q : tally_of z ≡ only_if (size_rules (ring log s)) (size (ring log s))) where
-      pub no_size : z ≡ Broken → none ≡ entry_at log guid s
+    module _ (z : Option ℕ) (q : z ≡ only_if (size_rules (ring log s)) (size (ring log s))) where
+      pub no_size : z ≡ None → None ≡ entry_at log guid s
       no_size h =
-          let no = only_if-none (size_rules (ring log s)) (size (ring log s)) (sym (ap tally_of h) ∙ q) in
+          let no = only_if-none (size_rules (ring log s)) (size (ring log s)) (sym h ∙ q) in
           nothing-at (parts ∙ ap (λ (b : Bool). t && (b && end_rules (ring log s))) no ∙ and-false t)
 
-      module _ {k : ℕ} (h : z ≡ Whole k) where
+      module _ {k : ℕ} (h : z ≡ Some k) where
         sized : (size_rules (ring log s) ≡ true) × (k ≡ size (ring log s))
-        sized = only_if-some (size_rules (ring log s)) (size (ring log s)) (sym (ap tally_of h) ∙ q)
+        sized = only_if-some (size_rules (ring log s)) (size (ring log s)) (sym h ∙ q)
 
         pub size_is : k ≡ size (ring log s)
         size_is = sized.1
@@ -148,12 +148,13 @@ module _ (guid : Guid) (log : List ℕ) (s : ℕ) where
           valid-is : valid_entry guid (ring log s) ≡ u
           valid-is = parts ∙ ap₂ (λ (x y : Bool). x && (y && end_rules (ring log s))) yes sized.0 ∙ sym e
 
-          pub bad-end : u ≡ false → none ≡ entry_at log guid s
-          bad-end g = nothing-at (valid-is ∙ g)
-
-          pub valid-at : u ≡ true → {m l : ℕ} → m ≡ sequence_number_of (ring log s) → l ≡ tail (ring log s) / 4096
-              → some (record { size = k; number = m; tail = l }) ≡ entry_at log guid s
-          valid-at g a b = something-at (valid-is ∙ g) (λ i. record { size = size_is i; number = a i; tail = b i })
+          pub valid-at : {m l : ℕ} → m ≡ sequence_number_of (ring log s) → l ≡ tail (ring log s) / 4096
+              → then_some u (record { size = k; number = m; tail = l }) ≡ entry_at log guid s
+          unfolding entry_at
+          valid-at a b =
+              ap (then_some u) (λ i. record { size = size_is i; number = a i; tail = b i })
+              ∙ answered u _
+              ∙ ap (λ (t : Bool). only_if t (contents (ring log s))) (sym valid-is)
 
 -- ---- what a valid entry keeps to
 

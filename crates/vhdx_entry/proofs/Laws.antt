@@ -2,7 +2,7 @@
 -- sector is that sector's. And laws of loops over descriptors and sectors.
 -- Assumes nothing.
 use mathlib.Core.Path.{◌≡◌, refl, sym, ap, ◌∙◌}
-use mathlib.Core.Bool.{cond}
+use mathlib.Core.Bool.{Bool, cond}
 use mathlib.Core.List.{List, [], ◌∷◌, ◌++◌}
 use Prim.Native.Nat.{ℕ, zero, suc, ◌+◌, ◌-◌, ◌*◌, ◌/◌, ◌%◌, ◌≤◌, ◌<◌}
 use native.Mathlib.Decide.{dec_lt}
@@ -11,6 +11,7 @@ use native.Mathlib.Numerals.{add-one}
 use native.Mathlib.Omega.{arith}
 use lib.ListN.{length, take, drop, length-drop, length-append}
 use lib.Seq.{length-take-le, take-take, drop-drop, take-append-le, drop-append-le, drop-append-add, take-add}
+use Rattle.decision.specs.Bounded.{every}
 use Rattle.field.specs.Fields.{le, field}
 use Rattle.vhdx_entry.specs.Ring.{ring, sector_at, offset_in, On}
 use Rattle.vhdx_entry.specs.declared.ring.RingPos.{RingPos}
@@ -44,6 +45,12 @@ sector-next r k = ap (λ (n : ℕ). take n r) {x = (k + 1) * 4096} {y = k * 4096
 pub data-more : (r : List ℕ) (i : ℕ) → data_before r (i + 1) ≡ data_before r i + cond (is_data_descriptor (descriptor r i)) 1 0
 unfolding data_before
 data-more r i = rw (add-one i)
+
+-- tests that agree below a bound
+pub every-same : (f g : ℕ → Bool) (m : ℕ) → ((k : ℕ) → k < m → f k ≡ g k) → every m f ≡ every m g
+unfolding every
+every-same f g zero h = refl
+every-same f g (suc m) h = rw (every-same f g m (λ k b. h k (omega arith)), h m (omega arith))
 
 module _ (log : List ℕ) (n s : ℕ) (whole : length log ≡ n * 4096) (here : s < n) where
   length_rest : length (drop (s * 4096) log) ≡ (n - s) * 4096

@@ -1,18 +1,13 @@
 -- A valid entry of the log, clause by clause (document 01, "The log"; MS-VHDX 2.3.1). An entry is judged on r, the ring
 -- read from its start once round: its bytes are the first of r.
 -- Assumes nothing.
-use Rattle.std.specs.Prelude.{Bool, cond, ◌&&◌, ◌||◌, List, ℕ, zero, suc, ◌+◌, ◌-◌, ◌*◌, ◌/◌, ◌%◌, ◌^◌, nat_eq, nat_le, nat_lt, length, take, drop}
-use Rattle.std.proofs.Math.Option.{Option, none, some}
+use Rattle.std.specs.Prelude.{Bool, cond, ◌&&◌, ◌||◌, List, Option, ℕ, zero, suc, ◌+◌, ◌-◌, ◌*◌, ◌/◌, ◌%◌, ◌^◌, nat_eq, nat_le, nat_lt, length, take, drop}
 use Rattle.decision.specs.Bounded.{every, only_if}
 use Rattle.field.specs.declared.Guid.{Guid}
 use Rattle.field.specs.Fields.{field, number}
 use Rattle.crc32c.specs.Crc.{crc, zeroed}
 use Rattle.vhdx_entry.specs.Ring.{log_sector_size, sector_count, ring, sector_at}
 use Rattle.vhdx_entry.specs.declared.Entry.{Entry}
-use Rattle.vhdx_entry.specs.declared.Slot.{Slot}
-use Rattle.vhdx_entry.specs.declared.Slot.TheVariants.{Valid, Empty}
-use Rattle.vhdx_entry.specs.declared.body.Tally.{Tally}
-use Rattle.vhdx_entry.specs.declared.body.Tally.TheVariants.{Whole, Broken}
 
 -- the signatures, as the little-endian numbers of their four bytes
 -- "loge"
@@ -179,15 +174,6 @@ contents r = record { size = size r; number = sequence_number_of r; tail = tail 
 -- "each starting where the one before ended": where the entry behind the one at sector s starts
 abbrev pub behind : List ℕ → ℕ → ℕ
 behind log s = (s + size (ring log s)) % sector_count log
-
--- what the code answers of a position, and of descriptors
-abbrev pub slot_of : Slot → Option Entry
-slot_of (Valid e) = some e
-slot_of Empty = none
-
-abbrev pub tally_of : Tally → Option ℕ
-tally_of (Whole n) = some n
-tally_of Broken = none
 
 -- the valid entry that starts at sector s of the log
 unfoldable pub entry_at : List ℕ → Guid → ℕ → Option Entry

@@ -4,66 +4,49 @@ ghost use Rattle.std.specs.Prelude.{◌≡◌, cond, ◌&&◌, ◌+◌, ◌*◌,
 ghost use Rattle.decision.specs.Bounded.{every, only_if};
 ghost use Rattle.crc32c.specs.Crc.{crc, zeroed};
 ghost use Rattle.vhdx_entry.specs.Ring.{log_sector_size, ring as ring_of, sector_at, On};
-ghost use Rattle.vhdx_entry.specs.Entry.{descriptor as descriptor_of, descriptor_start, is_data_descriptor, descriptor_count, sequence_number_of, data_before, size as size_of, descriptor_rule, descriptors_rule, data_sector_rule, data_sectors_rule, fits_rule, entry_length_rule, checksum_rule, tally_of};
+ghost use Rattle.vhdx_entry.specs.Entry.{descriptor as descriptor_of, descriptor_start, is_data_descriptor, descriptor_count, sequence_number_of, data_before, size as size_of, descriptor_rule, descriptors_rule, data_sector_rule, data_sectors_rule, fits_rule, entry_length_rule, checksum_rule};
 
 use crate::ring::RingPos;
 use crate::{descriptor, header, ring};
 
-// Of descriptors that should keep their rule: how many were asked for, or that one breaks it.
-#[derive(Clone, Copy)]
-pub enum Tally {
-    Whole(usize),
-    Broken,
-}
-
 // How many of the first count descriptors are data descriptors, if all keep their rule.
-fn data_descriptors(log: &[u8], pos: RingPos, number: u64, count: usize) -> Tally
+fn data_descriptors(log: &[u8], pos: RingPos, number: u64, count: usize) -> Option<usize>
     requires { On log.now pos × (descriptor_start count ≤ length log.now) × (count < 4294967296) }
-    ensures { tally_of result ≡ only_if (every count (λ i. descriptor_rule number (descriptor_of (ring_of log.now pos.at) i))) (data_before (ring_of log.now pos.at) count) }
+    ensures { result ≡ only_if (every count (λ i. descriptor_rule number (descriptor_of (ring_of log.now pos.at) i))) (data_before (ring_of log.now pos.at) count) }
 {
     let mut found: usize = 0;
-    let mut i: usize = 0;
-    while i < count {
+    for i in 0..count {
         let d = descriptor::at(log, pos, i);
         if !descriptor::keeps_rule(d, number) {
-            return Tally::Broken;
+            return None;
         }
         found = counted(d, found);
-        i += 1;
     }
-    Tally::Whole(found)
+    Some(found)
 }
 
 // One more where the descriptor is a data descriptor.
-pub fn counted(d: &[u8], so_far: usize) -> usize
-    requires { (length d.now ≡ 32) × (so_far < 4294967296) }
+pub fn counted(d: &[u8; 32], so_far: usize) -> usize
+    requires { so_far < 4294967296 }
     ensures { result ≡ so_far + cond (is_data_descriptor d.now) 1 0 }
 {
-    if descriptor::is_data(d) {
-        so_far + 1
-    } else {
-        so_far
-    }
+    so_far + usize::from(descriptor::is_data(d))
 }
 
 // The length in sectors of an entry with count descriptors, if they keep their rule and it fits the log.
-pub fn size(log: &[u8], pos: RingPos, number: u64, count: usize) -> Tally
+pub fn size(log: &[u8], pos: RingPos, number: u64, count: usize) -> Option<usize>
     requires { On log.now pos × (number ≡ sequence_number_of (ring_of log.now pos.at)) × (count ≡ descriptor_count (ring_of log.now pos.at)) × (count < 4294967296) }
-    ensures { tally_of result ≡ only_if (fits_rule (ring_of log.now pos.at) && descriptors_rule (ring_of log.now pos.at)) (size_of (ring_of log.now pos.at)) }
+    ensures { result ≡ only_if (fits_rule (ring_of log.now pos.at) && descriptors_rule (ring_of log.now pos.at)) (size_of (ring_of log.now pos.at)) }
 {
     let front = descriptor::sectors(count);
     if pos.len < front {
-        return Tally::Broken;
+        return None;
     }
-    match data_descriptors(log, pos, number, count) {
-        Tally::Broken => Tally::Broken,
-        Tally::Whole(data) => {
-            if data <= pos.len - front {
-                Tally::Whole(front + data)
-            } else {
-                Tally::Broken
-            }
-        }
+    let data = data_descriptors(log, pos, number, count)?;
+    if data <= pos.len - front {
+        Some(front + data)
+    } else {
+        None
     }
 }
 
@@ -72,26 +55,18 @@ fn data_sectors(log: &[u8], pos: RingPos, number: u64, from: usize, count: usize
     requires { On log.now pos × (from + count ≤ pos.len) }
     ensures { result ≡ every count (λ k. data_sector_rule number (sector_at (ring_of log.now pos.at) (from + k))) }
 {
-    let mut k: usize = 0;
-    while k < count {
-        let s = ring::sector(log, pos.advance(from + k));
-        if !is_data_sector(s, number) {
-            return false;
-        }
-        k += 1;
-    }
-    true
+    (0..count).all(|k| is_data_sector(ring::sector(log, pos.advance(from + k)), number))
 }
 
 // "data" as a little-endian number.
 const DATA: u32 = 0x61746164;
 
-pub fn is_data_sector(s: &[u8], number: u64) -> bool
-    requires { length s.now ≡ 4096 }
+pub fn is_data_sector(s: &[u8; 4096], number: u64) -> bool
     ensures { result ≡ data_sector_rule number s.now }
 {
     let high = field::u32_at(s, 4) as u64;
     let low = field::u32_at(s, 4092) as u64;
+    // `&`, since `&&` is a branch at each test: its proof was tried, and is long
     (field::u32_at(s, 0) == DATA) & (high * 4294967296 + low == number)
 }
 
@@ -101,10 +76,8 @@ fn checksum(log: &[u8], pos: RingPos, sectors: usize) -> u32
     ensures { result ≡ crc (zeroed (take (sectors * log_sector_size) (ring_of log.now pos.at)) 4) }
 {
     let mut state = crc32c::start_zeroed(ring::sector(log, pos), 4);
-    let mut k: usize = 1;
-    while k < sectors {
+    for k in 1..sectors {
         state = crc32c::update(state, ring::sector(log, pos.advance(k)));
-        k += 1;
     }
     crc32c::finish(state)
 }
@@ -116,12 +89,7 @@ pub fn ends_well(log: &[u8], pos: RingPos, number: u64, count: usize, size: usiz
 {
     let h = ring::sector(log, pos);
     let front = descriptor::sectors(count);
-    if header::entry_length(h) != size * 4096 {
-        return false;
-    }
-    if data_sectors(log, pos, number, front, size - front) {
-        header::checksum(h) == checksum(log, pos, size)
-    } else {
-        false
-    }
+    header::entry_length(h) == size * 4096
+        && data_sectors(log, pos, number, front, size - front)
+        && header::checksum(h) == checksum(log, pos, size)
 }

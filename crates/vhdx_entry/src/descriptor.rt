@@ -6,14 +6,11 @@ ghost use Rattle.vhdx_entry.specs.Entry.{descriptor as descriptor_of, descriptor
 use crate::ring::RingPos;
 
 // Descriptor i of the entry at a position.
-pub fn at(log: &[u8], pos: RingPos, i: usize) -> &[u8]
+pub fn at(log: &[u8], pos: RingPos, i: usize) -> &[u8; 32]
     requires { On log.now pos × (descriptor_start (i + 1) ≤ length log.now) }
-    ensures bytes { result.now ≡ descriptor_of (ring_of log.now pos.at) i }
-    ensures len { length result.now ≡ 32 }
+    ensures { result.now ≡ descriptor_of (ring_of log.now pos.at) i }
 {
-    let from = pos.offset(64 + 32 * i);
-    let to = from + 32;
-    &log[from..to]
+    field::array_at(log, pos.offset(64 + 32 * i))
 }
 
 // The sectors that an entry's header and count descriptors take.
@@ -29,36 +26,33 @@ const DESC: u32 = 0x63736564;
 
 const ZERO: u32 = 0x6f72657a;
 
-pub fn is_data(d: &[u8]) -> bool
-    requires { length d.now ≡ 32 }
+pub fn is_data(d: &[u8; 32]) -> bool
     ensures { result ≡ is_data_descriptor d.now }
 {
     field::u32_at(d, 0) == DESC
 }
 
-pub fn zero_length(d: &[u8]) -> u64
-    requires { length d.now ≡ 32 }
+pub fn zero_length(d: &[u8; 32]) -> u64
     ensures { result ≡ zero_length d.now }
 {
     field::u64_at(d, 8)
 }
 
-pub fn file_offset(d: &[u8]) -> u64
-    requires { length d.now ≡ 32 }
+pub fn file_offset(d: &[u8; 32]) -> u64
     ensures { result ≡ file_offset d.now }
 {
     field::u64_at(d, 16)
 }
 
 // Of an entry with this sequence number.
-pub fn keeps_rule(d: &[u8], number: u64) -> bool
-    requires { length d.now ≡ 32 }
+pub fn keeps_rule(d: &[u8; 32], number: u64) -> bool
     ensures { result ≡ descriptor_rule number d.now }
 {
     let data = is_data(d);
     let zero = field::u32_at(d, 0) == ZERO;
     let length = zero_length(d);
     let offset = file_offset(d);
+    // `&`, since `&&` is a branch at each test: its proof was tried, and is long
     (data | (zero & (length % 4096 == 0)))
         & ((offset % 4096 == 0) & (field::u64_at(d, 24) == number))
 }

@@ -10,49 +10,33 @@ pub mod ring;
 
 ghost use Rattle.std.specs.Prelude.{◌≡◌};
 ghost use Rattle.vhdx_entry.specs.Ring.{On};
-ghost use Rattle.vhdx_entry.specs.Entry.{entry_at, slot_of};
+ghost use Rattle.vhdx_entry.specs.Entry.{entry_at};
 
 use ring::RingPos;
 
 // What log sequences are made by: an entry's length and its Tail, in sectors, and its sequence number.
-#[derive(Clone, Copy)]
+#[derive(Clone, Copy, Debug, PartialEq, Eq, Drop)]
 pub struct Entry {
     pub size: usize,
     pub number: u64,
     pub tail: usize,
 }
 
-// What starts at a position: a valid entry, or none.
-#[derive(Clone, Copy)]
-pub enum Slot {
-    Valid(Entry),
-    Empty,
-}
-
-// Structure first, sector by sector; the checksum last.
-pub fn read(log: &[u8], pos: RingPos, guid: field::Guid) -> Slot
+// The valid entry that starts at a position. Structure first, sector by sector; the checksum last.
+pub fn read(log: &[u8], pos: RingPos, guid: field::Guid) -> Option<Entry>
     requires { On log.now pos }
-    ensures { slot_of result ≡ entry_at log.now guid pos.at }
+    ensures { result ≡ entry_at log.now guid pos.at }
 {
     let h = ring::sector(log, pos);
-    if header::keeps_rules(h, guid, log.len()) {
-        let number = header::sequence_number(h);
-        let count = header::descriptor_count(h);
-        match body::size(log, pos, number, count) {
-            body::Tally::Broken => Slot::Empty,
-            body::Tally::Whole(size) => {
-                if body::ends_well(log, pos, number, count, size) {
-                    Slot::Valid(Entry {
-                        size,
-                        number,
-                        tail: header::tail(h),
-                    })
-                } else {
-                    Slot::Empty
-                }
-            }
-        }
-    } else {
-        Slot::Empty
+    if !header::keeps_rules(h, guid, log.len()) {
+        return None;
     }
+    let number = header::sequence_number(h);
+    let count = header::descriptor_count(h);
+    let size = body::size(log, pos, number, count)?;
+    body::ends_well(log, pos, number, count, size).then_some(Entry {
+        size,
+        number,
+        tail: header::tail(h),
+    })
 }

@@ -5,7 +5,7 @@ ghost use Rattle.vhdx_entry.specs.Ring.{sector_at, advanced, offset_in, On};
 pub const SECTOR: usize = 4096;
 
 // A position in a ring of `len` sectors.
-#[derive(Clone, Copy)]
+#[derive(Clone, Copy, Debug, PartialEq, Eq, Drop)]
 pub struct RingPos {
     pub at: usize,
     pub len: usize,
@@ -18,15 +18,14 @@ impl RingPos {
         ensures value { result ≡ advanced self by }
         ensures on_ring { (result.at < self.len) × (result.len ≡ self.len) }
     {
-        let at = self.at;
-        let len = self.len;
-        if by < len - at {
-            RingPos { at: at + by, len }
-        } else {
-            RingPos {
-                at: by - (len - at),
-                len,
-            }
+        let before_end = self.len - self.at;
+        RingPos {
+            at: if by < before_end {
+                self.at + by
+            } else {
+                by - before_end
+            },
+            ..self
         }
     }
 
@@ -40,12 +39,9 @@ impl RingPos {
     }
 }
 
-pub fn sector(log: &[u8], pos: RingPos) -> &[u8]
+pub fn sector(log: &[u8], pos: RingPos) -> &[u8; 4096]
     requires { On log.now pos }
-    ensures bytes { result.now ≡ sector_at log.now pos.at }
-    ensures len { length result.now ≡ 4096 }
+    ensures { result.now ≡ sector_at log.now pos.at }
 {
-    let start = pos.at * SECTOR;
-    let end = start + SECTOR;
-    &log[start..end]
+    field::array_at(log, pos.at * SECTOR)
 }

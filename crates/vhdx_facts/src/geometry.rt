@@ -32,7 +32,7 @@ pub fn chunks(facts: Facts) -> u64
     requires { sizes_rule facts ≡ true }
     ensures { result ≡ chunks_of facts }
 {
-    (sectors(facts) + (SECTORS_IN_CHUNK - 1)) / SECTORS_IN_CHUNK
+    sectors(facts).div_ceil(SECTORS_IN_CHUNK)
 }
 
 pub fn needed_entries(facts: Facts) -> u64
@@ -47,8 +47,7 @@ pub fn bat_keeps_rule(facts: Facts) -> bool
     requires { sizes_rule facts ≡ true }
     ensures { result ≡ bat_rule facts }
 {
-    let bat = facts.bat;
-    needed_entries(facts) * 8 <= bat.length
+    needed_entries(facts) * 8 <= facts.bat.length
 }
 
 // The number of the entry of chunk c's sector bitmap. A ratio is at most 2^15.

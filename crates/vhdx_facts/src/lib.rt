@@ -9,9 +9,10 @@ ghost use Rattle.std.specs.Prelude.{◌≡◌};
 ghost use Rattle.vhdx_facts.specs.Ranges.{no_facts};
 
 use extent::Extent;
+use field::Guid;
 
 // What attaching a file answers of it. A caller may hand back any numbers as facts, so all have 64 bits.
-#[derive(Clone, Copy)]
+#[derive(Clone, Copy, Debug, PartialEq, Eq, Drop)]
 pub struct Facts {
     pub logical_sector_size: u64,
     pub physical_sector_size: u64,
@@ -19,7 +20,7 @@ pub struct Facts {
     pub disk_size: u64,
     pub has_parent: bool,
     // the 16 stored bytes
-    pub disk_id: field::Guid,
+    pub disk_id: Guid,
     // offsets from the image's start
     pub bat: Extent,
     pub metadata: Extent,
@@ -36,7 +37,7 @@ pub fn none() -> Facts
         block_size: 0,
         disk_size: 0,
         has_parent: false,
-        disk_id: field::Guid { low: 0, high: 0 },
+        disk_id: Guid::ZERO,
         bat: extent::nowhere(),
         metadata: extent::nowhere(),
         locator: extent::nowhere(),

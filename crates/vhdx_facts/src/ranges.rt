@@ -10,7 +10,7 @@ const DISK_SIZE_LIMIT: u64 = 70368744177664;
 pub fn is_sector_size(n: u64) -> bool
     ensures { result ≡ sector_size_rule n }
 {
-    (n == 512) | (n == 4096)
+    n == 512 || n == 4096
 }
 
 pub fn is_block_size(n: u64) -> bool
@@ -43,7 +43,7 @@ pub fn is_disk_size(sector_size: u64, n: u64) -> bool
     requires { sector_size_rule sector_size ≡ true }
     ensures { result ≡ disk_size_rule sector_size n }
 {
-    is_whole_sectors(sector_size, n) & ((sector_size <= n) & (n <= DISK_SIZE_LIMIT))
+    is_whole_sectors(sector_size, n) && sector_size <= n && n <= DISK_SIZE_LIMIT
 }
 
 // Both divisors are written out: this is asked at every lookup, and a division by a number that is not known when the code is
@@ -63,10 +63,8 @@ fn is_whole_sectors(sector_size: u64, n: u64) -> bool
 pub fn sizes_keep_rules(facts: Facts) -> bool
     ensures { result ≡ sizes_rule facts }
 {
-    if !is_sector_size(facts.logical_sector_size) {
-        return false;
-    }
-    is_sector_size(facts.physical_sector_size)
-        & (is_block_size(facts.block_size)
-            & is_disk_size(facts.logical_sector_size, facts.disk_size))
+    is_sector_size(facts.logical_sector_size)
+        && is_sector_size(facts.physical_sector_size)
+        && is_block_size(facts.block_size)
+        && is_disk_size(facts.logical_sector_size, facts.disk_size)
 }

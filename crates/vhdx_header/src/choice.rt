@@ -3,12 +3,13 @@ ghost use Rattle.std.specs.Prelude.{◌≡◌, ◌+◌, ◌≤◌, length};
 ghost use Rattle.extent.specs.Extent.{mib};
 ghost use Rattle.vhdx_header.specs.Current.{header_at, chosen_slot, current_slot, read_header, read_slot, read_first_mib};
 
-use crate::{Answer, fields};
+use crate::{Header, fields};
+use decision::Refusal;
+use std::cmp::Ordering;
 
 // Which of the two headers is the current one.
-#[derive(Clone, Copy)]
+#[derive(Clone, Copy, Debug, PartialEq, Eq, Drop)]
 pub enum Slot {
-    Neither,
     First,
     Second,
 }
@@ -17,41 +18,40 @@ const SLOT1: usize = 65536;
 
 const SLOT2: usize = 131072;
 
-pub fn read_first_mib(m: &[u8]) -> Answer
+pub fn read_first_mib(m: &[u8]) -> Result<Header, Refusal>
     requires { length m.now ≡ mib }
     ensures { result ≡ read_first_mib m.now }
 {
     if field::bytes_are(m, 0, b"vhdxfile") {
         read_slot(current_slot(m), m)
     } else {
-        Answer::Refused(2)
+        Err(Refusal::NotVhdx)
     }
 }
 
-fn read_slot(slot: Slot, m: &[u8]) -> Answer
+fn read_slot(slot: Option<Slot>, m: &[u8]) -> Result<Header, Refusal>
     requires { length m.now ≡ mib }
     ensures { result ≡ read_slot slot m.now }
 {
-    match slot {
-        Slot::Neither => Answer::Refused(3),
+    match slot.ok_or(Refusal::NoCurrentHeader)? {
         Slot::First => read_header(SLOT1, m),
         Slot::Second => read_header(SLOT2, m),
     }
 }
 
-fn read_header(at: usize, m: &[u8]) -> Answer
+fn read_header(at: usize, m: &[u8]) -> Result<Header, Refusal>
     requires { at + 4096 ≤ length m.now }
     ensures { result ≡ read_header at (header_at m.now at) }
 {
     let h = header_at(m, at);
     if fields::keep_rules(h) {
-        Answer::Current(fields::contents(at as u64, h))
+        Ok(fields::contents(at as u64, h))
     } else {
-        Answer::Refused(4)
+        Err(Refusal::HeaderField)
     }
 }
 
-fn current_slot(m: &[u8]) -> Slot
+fn current_slot(m: &[u8]) -> Option<Slot>
     requires { length m.now ≡ mib }
     ensures { result ≡ current_slot m.now }
 {
@@ -65,29 +65,24 @@ fn current_slot(m: &[u8]) -> Slot
     )
 }
 
-pub fn chosen_slot(first: bool, second: bool, number1: u64, number2: u64) -> Slot
+pub fn chosen_slot(first: bool, second: bool, number1: u64, number2: u64) -> Option<Slot>
     ensures { result ≡ chosen_slot first second number1 number2 }
 {
-    if first {
-        if second {
-            if number2 < number1 {
-                return Slot::First;
-            }
-            if number1 < number2 {
-                return Slot::Second;
-            }
-            return Slot::Neither;
-        }
-        return Slot::First;
+    match (first, second) {
+        (true, true) => match number1.cmp(&number2) {
+            Ordering::Greater => Some(Slot::First),
+            Ordering::Less => Some(Slot::Second),
+            Ordering::Equal => None,
+        },
+        (true, false) => Some(Slot::First),
+        (false, true) => Some(Slot::Second),
+        (false, false) => None,
     }
-    if second { Slot::Second } else { Slot::Neither }
 }
 
-fn header_at(m: &[u8], at: usize) -> &[u8]
+fn header_at(m: &[u8], at: usize) -> &[u8; 4096]
     requires { at + 4096 ≤ length m.now }
-    ensures bytes { result.now ≡ header_at m.now at }
-    ensures len { length result.now ≡ 4096 }
+    ensures { result.now ≡ header_at m.now at }
 {
-    let end = at + 4096;
-    &m[at..end]
+    field::array_at(m, at)
 }

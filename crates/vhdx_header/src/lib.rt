@@ -8,7 +8,9 @@ pub mod fields;
 ghost use Rattle.std.specs.Prelude.{◌≡◌};
 ghost use Rattle.vhdx_header.specs.Current.{current_header, within_image};
 
-#[derive(Clone, Copy)]
+use decision::Refusal;
+
+#[derive(Clone, Copy, Debug, PartialEq, Eq, Drop)]
 pub struct Header {
     // where it stands: 65,536 or 131,072
     pub slot: u64,
@@ -18,37 +20,24 @@ pub struct Header {
     pub log_length: u64,
 }
 
-#[derive(Clone, Copy)]
-pub enum Answer {
-    // document 01's number
-    Refused(u64),
-    Current(Header),
-}
-
 // Of the image that is the first length bytes of the buffer.
-pub fn read(buffer: &[u8], length: u64) -> Answer
+pub fn read(buffer: &[u8], length: u64) -> Result<Header, Refusal>
     ensures { result ≡ current_header buffer.now length }
 {
-    if (buffer.len() as u64) < length {
-        return Answer::Refused(1);
-    }
-    if length < extent::MIB {
-        return Answer::Refused(1);
+    if (buffer.len() as u64) < length || length < extent::MIB {
+        return Err(Refusal::ImageLength);
     }
     within_image(length, choice::read_first_mib(&buffer[..1048576]))
 }
 
-pub fn within_image(length: u64, answer: Answer) -> Answer
-    ensures { result ≡ within_image length answer }
+// What is read of the first MiB, judged by the length too.
+pub fn within_image(length: u64, read: Result<Header, Refusal>) -> Result<Header, Refusal>
+    ensures { result ≡ within_image length read }
 {
-    match answer {
-        Answer::Refused(number) => Answer::Refused(number),
-        Answer::Current(header) => {
-            if extent::is_inside(header.log_offset, header.log_length, length) {
-                Answer::Current(header)
-            } else {
-                Answer::Refused(4)
-            }
-        }
+    let header = read?;
+    if extent::is_inside(header.log_offset, header.log_length, length) {
+        Ok(header)
+    } else {
+        Err(Refusal::HeaderField)
     }
 }

@@ -3,7 +3,7 @@
 use mathlib.Core.Path.{◌≡◌, refl}
 use mathlib.Core.Bool.{Bool, true, false, cond, and-eq-true_iff}
 use mathlib.Core.List.{List}
-use mathlib.Core.Option.{Option, none, some}
+use Rattle.std.specs.Prelude.{Option, None, Some}
 use Prim.Native.Nat.{ℕ, ◌+◌, ◌≤◌, ◌<◌}
 use native.Mathlib.Omega.{arith}
 use lib.Dec.{ltb}
@@ -64,11 +64,11 @@ entry-keeps item i k b = every-at (λ j. entry_rule item j) (entry_count item) i
 -- ---- the value of a key
 
 module _ (item key : List ℕ) where
-  pub entry_found : {i : ℕ} → entry_of item key ≡ some i → i < entry_count item
+  pub entry_found : {i : ℕ} → entry_of item key ≡ Some i → i < entry_count item
   unfolding entry_of
   entry_found e = (first_holds (has_key item key) (entry_count item) e).0
 
-  pub value_found : {i : ℕ} → locator_rule item ≡ true → entry_of item key ≡ some i → Part item (value_offset item i) (value_length item i)
+  pub value_found : {i : ℕ} → locator_rule item ≡ true → entry_of item key ≡ Some i → Part item (value_offset item i) (value_length item i)
   value_found {i} h e = value-part item i (entry-keeps item i (keeps item h) (entry_found e))
 
   -- a caller may take that part of the item, also where there is no value
@@ -78,5 +78,5 @@ module _ (item key : List ℕ) where
     where
       go : (t : Bool) → locator_rule item ≡ t → (o : Option ℕ) → entry_of item key ≡ o → (cond t (value_at item o) nowhere).offset + (cond t (value_at item o) nowhere).length ≤ length item
       go false h o e = omega arith
-      go true h none e = omega arith
-      go true h (some i) e = (value_found h e).within
+      go true h None e = omega arith
+      go true h (Some i) e = (value_found h e).within

@@ -1,8 +1,7 @@
 -- The parent locator: its rule, and the value of a key (document 01, "Regions and items": "Locator", and "What the gate does":
 -- "Parent key"; MS-VHDX 2.6.2.6). A locator is the list of its item's bytes.
 -- Assumes nothing.
-use Rattle.std.specs.Prelude.{Bool, cond, ◌&&◌, List, ℕ, ◌+◌, ◌*◌, nat_eq, nat_le, nat_lt, length, drop}
-use Rattle.std.proofs.Math.Option.{Option, none, some}
+use Rattle.std.specs.Prelude.{Bool, cond, ◌&&◌, List, ℕ, ◌+◌, ◌*◌, nat_eq, nat_le, nat_lt, length, drop, Option, None, Some}
 use Rattle.decision.specs.Bounded.{every, first}
 use Rattle.field.specs.Fields.{le, field, starts}
 use Rattle.extent.specs.declared.Extent.{Extent}
@@ -71,8 +70,8 @@ entry_of item key = first (entry_count item) (has_key item key)
 
 -- where the value of an entry lies in the item; nothing where there is no entry
 abbrev pub value_at : List ℕ → Option ℕ → Extent
-value_at item none = nowhere
-value_at item (some i) = record { offset = value_offset item i; length = value_length item i }
+value_at item None = nowhere
+value_at item (Some i) = record { offset = value_offset item i; length = value_length item i }
 
 -- where the value of a key lies in the item. "an empty part exactly when .. the locator found there breaks its rule, or no entry
 -- has that key": the length of a value is not 0

@@ -1,7 +1,6 @@
 // Entry i of a locator: the offset and the length of its key and of its value.
-ghost use Rattle.std.specs.Prelude.{true, ◌≡◌, ◌+◌, ◌≤◌, length};
-ghost use Rattle.std.proofs.Math.Option.{some};
-ghost use Rattle.vhdx_locator.specs.Locator.{entry_start, key_offset, key_length, part_rule, entry_rule, has_key, value_at};
+ghost use Rattle.std.specs.Prelude.{true, ◌≡◌, ◌+◌, ◌≤◌, ◌<◌, length, Some};
+ghost use Rattle.vhdx_locator.specs.Locator.{entry_count, entry_start, key_offset, key_length, part_rule, entry_rule, locator_rule, has_key, value_at};
 
 use extent::Extent;
 
@@ -9,7 +8,7 @@ use extent::Extent;
 fn part_keeps_rule(item: &[u8], part: Extent) -> bool
     ensures { result ≡ part_rule item.now part.offset part.length }
 {
-    (0 < part.length) & extent::is_inside(part.offset, part.length, item.len() as u64)
+    0 < part.length && extent::is_inside(part.offset, part.length, item.len() as u64)
 }
 
 fn key(item: &[u8], i: usize) -> Extent
@@ -25,7 +24,7 @@ fn key(item: &[u8], i: usize) -> Extent
 
 pub fn value(item: &[u8], i: usize) -> Extent
     requires { entry_start (i + 1) ≤ length item.now }
-    ensures { result ≡ value_at item.now (some i) }
+    ensures { result ≡ value_at item.now (Some i) }
 {
     let at = 20 + 12 * i;
     Extent {
@@ -34,21 +33,20 @@ pub fn value(item: &[u8], i: usize) -> Extent
     }
 }
 
+#[tactic(auto, unfolding(crate::specs::Locator::entry_rule))]
 pub fn keeps_rule(item: &[u8], i: usize) -> bool
     requires { entry_start (i + 1) ≤ length item.now }
     ensures { result ≡ entry_rule item.now i }
 {
-    part_keeps_rule(item, key(item, i)) & part_keeps_rule(item, value(item, i))
+    part_keeps_rule(item, key(item, i)) && part_keeps_rule(item, value(item, i))
 }
 
-// The entry has the key, byte for byte.
+// The entry has the key, byte for byte: of a locator that keeps its rule.
+#[tactic(auto, unfolding(crate::specs::Locator::has_key))]
 pub fn has_key(item: &[u8], i: usize, key_bytes: &[u8]) -> bool
-    requires { (entry_start (i + 1) ≤ length item.now) × (entry_rule item.now i ≡ true) }
+    requires { (locator_rule item.now ≡ true) × (i < entry_count item.now) }
     ensures { result ≡ has_key item.now key_bytes.now i }
 {
     let own = key(item, i);
-    if own.length != key_bytes.len() as u64 {
-        return false;
-    }
-    field::bytes_are(item, own.offset as usize, key_bytes)
+    own.length == key_bytes.len() as u64 && field::bytes_are(item, own.offset as usize, key_bytes)
 }

@@ -4,11 +4,10 @@
 
 mod entry;
 
-ghost use Rattle.std.specs.Prelude.{true, ◌≡◌, ◌≤◌, length};
-ghost use Rattle.decision.specs.Bounded.{every, found};
-ghost use Rattle.vhdx_locator.specs.Locator.{vhdx_type, entry_count, entry_start, type_rule, entry_rule, locator_rule, entry_of, value_of};
+ghost use Rattle.std.specs.Prelude.{true, ◌≡◌, ◌≤◌, ◌&&◌, length};
+ghost use Rattle.decision.specs.Bounded.{every};
+ghost use Rattle.vhdx_locator.specs.Locator.{vhdx_type, entry_count, entry_start, type_rule, entries_rule, entry_rule, locator_rule, entry_of, value_of};
 
-use decision::Index;
 use extent::Extent;
 
 // b04aefb7-d19e-4a81-b789-25b8e9445913, as it is stored
@@ -36,52 +35,29 @@ fn count(item: &[u8]) -> u16
     field::u16_at(item, 18)
 }
 
-// Every one of the count entries keeps its rule.
-fn entries_keep_rule(item: &[u8], count: usize) -> bool
-    requires { entry_start count ≤ length item.now }
-    ensures { result ≡ every count (λ i. entry_rule item.now i) }
+// The entries lie inside the item, and every one keeps its rule.
+fn entries_keep_rule(item: &[u8]) -> bool
+    requires { 20 ≤ length item.now }
+    ensures { result ≡ (entries_rule item.now && every (entry_count item.now) (λ i. entry_rule item.now i)) }
 {
-    let mut i: usize = 0;
-    while i < count {
-        if !entry::keeps_rule(item, i) {
-            return false;
-        }
-        i += 1;
-    }
-    true
+    let count = count(item) as usize;
+    20 + 12 * count <= item.len() && (0..count).all(|i| entry::keeps_rule(item, i))
 }
 
 // The locator keeps its rule.
+#[tactic(auto, unfolding(crate::specs::Locator::locator_rule))]
 pub fn keeps_rule(item: &[u8]) -> bool
     ensures { result ≡ locator_rule item.now }
 {
-    if item.len() < 20 {
-        return false;
-    }
-    if !is_vhdx(item) {
-        return false;
-    }
-    let count = count(item) as usize;
-    if item.len() < 20 + 12 * count {
-        return false;
-    }
-    entries_keep_rule(item, count)
+    20 <= item.len() && is_vhdx(item) && entries_keep_rule(item)
 }
 
 // The first entry with the key, of a locator that keeps its rule.
-fn entry_of(item: &[u8], key: &[u8]) -> Index
+fn entry_of(item: &[u8], key: &[u8]) -> Option<usize>
     requires { locator_rule item.now ≡ true }
-    ensures { found result ≡ entry_of item.now key.now }
+    ensures { result ≡ entry_of item.now key.now }
 {
-    let count = count(item) as usize;
-    let mut i = 0;
-    while i < count {
-        if entry::has_key(item, i, key) {
-            return Index::At(i);
-        }
-        i += 1;
-    }
-    Index::Nothing
+    (0..count(item) as usize).find(|i| entry::has_key(item, *i, key))
 }
 
 // Where the value of a key lies in the item; of length 0 where the locator breaks its rule or no entry has the key.
@@ -91,8 +67,5 @@ pub fn value(item: &[u8], key: &[u8]) -> Extent
     if !keeps_rule(item) {
         return extent::nowhere();
     }
-    match entry_of(item, key) {
-        Index::Nothing => extent::nowhere(),
-        Index::At(i) => entry::value(item, i),
-    }
+    entry_of(item, key).map_or(extent::nowhere(), |i| entry::value(item, i))
 }

@@ -4,18 +4,17 @@
 use mathlib.Core.Path.{◌≡◌, refl, ap, ◌∙◌}
 use mathlib.Core.Bool.{Bool, true, false, cond, not, ◌&&◌, and-eq-true_iff}
 use mathlib.Core.List.{List, []}
-use mathlib.Core.Option.{Option, none, some}
+use Rattle.std.specs.Prelude.{Option, None, Some, Result, Ok, Err}
 use Prim.Native.Nat.{ℕ, ◌≤◌}
 use native.Mathlib.Omega.{arith}
 use lib.Dec.{leb, eqb}
 use lib.ListN.{length}
 use borrow.Author.Tests.{leb-true, le-leb}
 use Rattle.field.specs.Fields.{number}
+use Rattle.decision.specs.declared.Refusal.{Refusal}
 use Rattle.decision.specs.Refusal.{check}
 use Rattle.extent.specs.declared.Extent.{Extent}
 use Rattle.vhdx_header.specs.declared.Header.{Header}
-use Rattle.vhdx_header.specs.declared.Answer.{Answer}
-use Rattle.vhdx_header.specs.declared.Answer.TheVariants.{Refused, Current}
 use Rattle.vhdx_header.specs.Current.{first_mib, current_header}
 use Rattle.vhdx_header.proofs.Laws.{read_again}
 use Rattle.vhdx_sequence.specs.declared.Sequence.{Sequence}
@@ -61,8 +60,8 @@ module _ (capacity : ℕ) {n n' m capacity' : ℕ} {ss : List Sector} (longer : 
 
   sequence-again : (e : Extent) (log : List ℕ) (q : Option Sequence) → plan_sequence e log n capacity q ≡ apply m ss → plan_sequence e log n' capacity' q ≡ apply m ss
   unfolding plan_sequence
-  sequence-again e log none h = let z : ◌≡◌ {A = ℕ} 0 1 = cc in absurd (omega arith)
-  sequence-again e log (some q) h = work-again e (entries_from log q.start q.more) h
+  sequence-again e log None h = let z : ◌≡◌ {A = ℕ} 0 1 = cc in absurd (omega arith)
+  sequence-again e log (Some q) h = work-again e (entries_from log q.start q.more) h
 
   log-again : (h : Header) (log : List ℕ) → plan_log h log n capacity ≡ apply m ss → plan_log h log n' capacity' ≡ apply m ss
   unfolding plan_log
@@ -74,16 +73,16 @@ module _ (capacity : ℕ) {n n' m capacity' : ℕ} {ss : List Sector} (longer : 
       go true p = ap (λ (x : ℕ). apply_within capacity' x []) {x = n'} {y = n} (omega (arith, final n [] p)) ∙ within-again n [] p
 
 module _ (b b' : List ℕ) {n n' m : ℕ} {ss : List Sector} (longer : n ≤ n') (below : n' ≤ m) (fits : m ≤ length b')
-    (log : (h : Header) → current_header b n ≡ Current h → log_bytes h b' ≡ log_bytes h b) where
+    (log : (h : Header) → current_header b n ≡ Ok h → log_bytes h b' ≡ log_bytes h b) where
   -- whatever else changed, the same header is current
-  pub plan-again-by : ((h : Header) → current_header b n ≡ Current h → current_header b' n' ≡ Current h) → plan b n ≡ apply m ss → plan b' n' ≡ apply m ss
+  pub plan-again-by : ((h : Header) → current_header b n ≡ Ok h → current_header b' n' ≡ Ok h) → plan b n ≡ apply m ss → plan b' n' ≡ apply m ss
   unfolding plan plan_header
   plan-again-by current e = go (current_header b n) refl e
     where
-      go : (a : Answer) → current_header b n ≡ a → plan_header a b n ≡ apply m ss → plan_header (current_header b' n') b' n' ≡ apply m ss
-      go (Refused c) k p = let z : ◌≡◌ {A = ℕ} 0 1 = cc in absurd (omega arith)
-      go (Current h) k p =
-          ap (λ (a : Answer). plan_header a b' n') (current h k)
+      go : (a : Result Header Refusal) → current_header b n ≡ a → plan_header a b n ≡ apply m ss → plan_header (current_header b' n') b' n' ≡ apply m ss
+      go (Err r) k p = let z : ◌≡◌ {A = ℕ} 0 1 = cc in absurd (omega arith)
+      go (Ok h) k p =
+          ap (λ (a : Result Header Refusal). plan_header a b' n') (current h k)
           ∙ ap (λ (l : List ℕ). plan_log h l n' (length b')) (log h k)
           ∙ log-again (length b) {n = n} {n' = n'} {m = m} {capacity' = length b'} {ss = ss} longer below fits h (log_bytes h b) p
 

@@ -10,13 +10,16 @@ use lib.Dec.{leb, eqb}
 use lib.ListN.{length, take, drop, length-drop}
 use lib.Seq.{length-take-le}
 use borrow.Author.Tests.{eqb-true, eq-eqb, leb-true}
+use Rattle.std.specs.Prelude.{Result, Ok, Err}
+use Rattle.decision.specs.declared.Refusal.{Refusal}
+use Rattle.decision.specs.declared.Refusal.TheVariants.{ForbiddenSector, FinalLength}
+use Rattle.decision.specs.Refusal.{number as number_of}
 use Rattle.field.specs.declared.Guid.{Guid}
 use Rattle.field.specs.Fields.{number}
 use Rattle.extent.specs.declared.Extent.{Extent}
 use Rattle.extent.specs.Extent.{mib}
 use Rattle.extent.proofs.Laws.{iff}
 use Rattle.vhdx_header.specs.declared.Header.{Header}
-use Rattle.vhdx_header.specs.declared.Answer.TheVariants.{Refused as HeaderRefused, Current}
 use Rattle.vhdx_header.specs.Current.{current_header}
 use Rattle.vhdx_header.proofs.Laws.{accepted}
 use Rattle.vhdx_sequence.specs.Sequence.{active_sequence}
@@ -26,21 +29,20 @@ use Rattle.vhdx_walk.specs.Cursor.{descriptors_on, AllReadable, Walkable}
 use Rattle.vhdx_walk.proofs.Chains.{chain-descriptors, first-placed, first-descriptors}
 use Rattle.vhdx_walk.proofs.Sectors.{from-ready}
 use Rattle.vhdx_log.specs.declared.survey.Survey.{Survey}
-use Rattle.vhdx_log.specs.declared.Answer.{Answer}
-use Rattle.vhdx_log.specs.declared.Answer.TheVariants.{Refused, Apply}
+use Rattle.vhdx_log.specs.declared.Work.{Work}
 use Rattle.vhdx_log.specs.Work.{some_lies, Plan, refused, apply, count, apply_within, work}
 use Rattle.vhdx_log.specs.Plan.{log_bytes, plan_sequence, plan_log, plan_header, plan}
 use Rattle.vhdx_log.specs.Survey.{capped, survey_of}
 use Rattle.vhdx_log.specs.Answers.{log_of, plan_of, count_of, ReadyIn, Stands}
 use Rattle.vhdx_log.proofs.Decisions.{refused-7, refused-8, applied, exact-count}
 
-pub refusal : (log : List ℕ) (c : ℕ) (p : Plan) → refused c ≡ p → Stands log (Refused c) p
-refusal log c p h = record { same = h; counted = ap count h; ready = tt }
+pub refusal : (log : List ℕ) (r : Refusal) (p : Plan) → refused (number_of r) ≡ p → Stands log (Err r) p
+refusal log r p h = record { same = h; counted = ap count h; ready = tt }
 
 -- ---- without a log
 
 pub no-log : (log : List ℕ) (n capacity : ℕ) → (leb n capacity && leb n length_limit) ≡ true →
-    Stands log (Apply (record { length = n; count = 0; cursor = record { pos = record { at = 0; len = 0 }; left = 0; index = 0; «data» = 0 } })) (apply_within capacity n [])
+    Stands log (Ok (record { length = n; count = 0; cursor = record { pos = record { at = 0; len = 0 }; left = 0; index = 0; «data» = 0 } })) (apply_within capacity n [])
 unfolding descriptors_on AllReadable
 no-log log n capacity h =
     record { same = rw h; counted = rw h; ready = from-ready log (record { pos = record { at = 0; len = 0 }; left = 0; index = 0; «data» = 0 }) (record { here = λ b. absurd (omega arith); readable = tt }) (omega arith) }
@@ -54,9 +56,9 @@ module _ (log : List ℕ) (s k : ℕ) (w : Walkable log s k) (e : Extent) (n cap
   few : length (all_descriptors (entries_from log s k)) ≤ 2097152
   few = omega (arith, w.few, w.small, ap length (chain-descriptors log s k))
 
-  pub lies-inside : v.lies ≡ true → Stands log (Refused 7) (work e (entries_from log s k) n capacity)
+  pub lies-inside : v.lies ≡ true → Stands log (Err ForbiddenSector) (work e (entries_from log s k) n capacity)
   lies-inside h =
-      refusal log 7 (work e (entries_from log s k) n capacity)
+      refusal log ForbiddenSector (work e (entries_from log s k) n capacity)
       (refused-7 e (entries_from log s k) n capacity flushed (sym (ap (λ (x : Survey). x.lies) all) ∙ h))
 
   module _ (apart : v.lies ≡ false) (last m : ℕ) (last-is : last ≡ (head (entries_from log s k)).last) (final : m ≡ max n (max last v.end)) where
@@ -66,9 +68,9 @@ module _ (log : List ℕ) (s k : ℕ) (w : Walkable log s k) (e : Extent) (n cap
     final-is : m ≡ max n (max (head (entries_from log s k)).last (capped (furthest (all_descriptors (entries_from log s k)))))
     final-is = final ∙ ap (λ (x : ℕ). max n (max x v.end)) last-is ∙ ap (λ (x : Survey). max n (max (head (entries_from log s k)).last x.end)) all
 
-    pub too_long : (leb m capacity && leb m length_limit) ≡ false → Stands log (Refused 8) (work e (entries_from log s k) n capacity)
+    pub too_long : (leb m capacity && leb m length_limit) ≡ false → Stands log (Err FinalLength) (work e (entries_from log s k) n capacity)
     too_long h =
-        refusal log 8 (work e (entries_from log s k) n capacity)
+        refusal log FinalLength (work e (entries_from log s k) n capacity)
         (refused-8 e (entries_from log s k) n capacity flushed outside m final-is h)
 
     bound : (leb m capacity && leb m length_limit) ≡ true → furthest (descriptors_on log s 0 (k + 1)) ≤ length_limit
@@ -77,7 +79,7 @@ module _ (log : List ℕ) (s k : ℕ) (w : Walkable log s k) (e : Extent) (n cap
         omega (arith, final-is, ap furthest (first-descriptors log s k w))
 
     pub applies : (leb m capacity && leb m length_limit) ≡ true →
-        Stands log (Apply (record { length = m; count = v.count; cursor = record { pos = record { at = s; len = length log / 4096 }; left = k + 1; index = 0; «data» = 0 } })) (work e (entries_from log s k) n capacity)
+        Stands log (Ok (record { length = m; count = v.count; cursor = record { pos = record { at = s; len = length log / 4096 }; left = k + 1; index = 0; «data» = 0 } })) (work e (entries_from log s k) n capacity)
     applies h =
         let done = applied e (entries_from log s k) n capacity flushed outside m final-is h in
         record {
@@ -111,7 +113,7 @@ pub log-part : (b : List ℕ) (h : Header) → take (h.log_offset + h.log_length
 unfolding log_bytes
 log-part b h = ap (λ (n : ℕ). take n (drop h.log_offset b)) (add-sub_cancel_left h.log_offset h.log_length)
 
-module _ (b : List ℕ) (n : ℕ) (h : Header) (current : current_header b n ≡ Current h) where
+module _ (b : List ℕ) (n : ℕ) (h : Header) (current : current_header b n ≡ Ok h) where
   pub log-inside : h.log_offset + h.log_length ≤ length b
   log-inside = let a = accepted b n current in omega arith
 
@@ -122,12 +124,12 @@ module _ (b : List ℕ) (n : ℕ) (h : Header) (current : current_header b n ≡
   pub log-placed : (length (log_bytes h b) % mib ≡ 0) × (length (log_bytes h b) ≤ 64 * mib)
   log-placed = let a = (accepted b n current).placed in (omega (arith, a.length_whole, log-length), omega (arith, a.limit, log-length))
 
-  pub without : (r : Answer) (capacity : ℕ) → eqb (number h.log_guid) 0 ≡ true →
+  pub without : (r : Result Work Refusal) (capacity : ℕ) → eqb (number h.log_guid) 0 ≡ true →
       ((log : List ℕ) → Stands log r (apply_within capacity n [])) → Stands (log_bytes h b) r (plan_log h (log_bytes h b) n capacity)
   unfolding plan_log
   without r capacity zero-guid s = rw zero-guid (s (log_bytes h b))
 
-  pub within : (r : Answer) (capacity : ℕ) (log : List ℕ) → log ≡ log_bytes h b → eqb (number h.log_guid) 0 ≡ false →
+  pub within : (r : Result Work Refusal) (capacity : ℕ) (log : List ℕ) → log ≡ log_bytes h b → eqb (number h.log_guid) 0 ≡ false →
       Stands log r (plan_sequence (record { offset = h.log_offset; length = length log }) log n capacity (active_sequence log h.log_guid)) →
       Stands (log_bytes h b) r (plan_log h (log_bytes h b) n capacity)
   unfolding plan_log
@@ -144,21 +146,26 @@ module _ (b : List ℕ) (n : ℕ) (h : Header) (current : current_header b n ≡
       log-length
       t)
 
-  pub planned : (r : Answer) → Stands (log_bytes h b) r (plan_log h (log_bytes h b) n (length b)) →
+  pub planned : (r : Result Work Refusal) → Stands (log_bytes h b) r (plan_log h (log_bytes h b) n (length b)) →
       (plan_of b n r ≡ plan b n) × (count_of r ≡ count (plan b n)) × ReadyIn (log_of b n) r
   unfolding plan plan_header log_of
   planned r s = rw current (s.same, s.counted, s.ready)
 
-pub plan-refused : (b : List ℕ) (n c : ℕ) → current_header b n ≡ HeaderRefused c → refused c ≡ plan b n
+pub plan-refused : (b : List ℕ) (n : ℕ) (r : Refusal) → current_header b n ≡ Err r → refused (number_of r) ≡ plan b n
 unfolding plan plan_header
-plan-refused b n c h = rw h
+plan-refused b n r h = rw h
+
+-- the header's refusal, passed on
+pub refused_plan : (b : List ℕ) (n : ℕ) (r : Refusal) → current_header b n ≡ Err r → (a : Result Work Refusal) → a ≡ Err r →
+    (plan_of b n a ≡ plan b n) × (count_of a ≡ count (plan b n)) × ReadyIn (log_of b n) a
+refused_plan b n r h a e = let p = plan-refused b n r h in rw e (p, ap count p, tt)
 
 -- ---- the log's bytes
 
-pub log-none : (b : List ℕ) (n : ℕ) {c : ℕ} → current_header b n ≡ HeaderRefused c → [] ≡ log_of b n
+pub log-none : (b : List ℕ) (n : ℕ) {r : Refusal} → current_header b n ≡ Err r → [] ≡ log_of b n
 unfolding log_of
 log-none b n h = rw h
 
-pub log_is : (b : List ℕ) (n : ℕ) {h : Header} → current_header b n ≡ Current h → log_bytes h b ≡ log_of b n
+pub log_is : (b : List ℕ) (n : ℕ) {h : Header} → current_header b n ≡ Ok h → log_bytes h b ≡ log_of b n
 unfolding log_of
 log_is b n h = rw h

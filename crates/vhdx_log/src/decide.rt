@@ -6,7 +6,8 @@ ghost use Rattle.vhdx_walk.specs.Cursor.{Walkable};
 ghost use Rattle.vhdx_log.specs.Work.{work, apply_within};
 ghost use Rattle.vhdx_log.specs.Answers.{Stands};
 
-use crate::{Answer, Work, number, survey};
+use crate::{Work, survey};
+use decision::Refusal;
 use vhdx_entry::ring::RingPos;
 use vhdx_entry::{header, ring};
 use vhdx_sequence::Sequence;
@@ -20,15 +21,15 @@ const LIMIT: u64 = 140737488355328;
 pub fn is_within(length: u64, capacity: u64) -> bool
     ensures { result ≡ (nat_le length capacity && nat_le length length_limit) }
 {
-    (length <= capacity) & (length <= LIMIT)
+    length <= capacity && length <= LIMIT
 }
 
 // Without a log nothing is to write and nothing grows.
-pub fn without_log(length: u64, capacity: u64) -> Answer
+pub fn without_log(length: u64, capacity: u64) -> Result<Work, Refusal>
     ensures { (log : List ℕ) → Stands log result (apply_within capacity length []) }
 {
     if is_within(length, capacity) {
-        Answer::Apply(Work {
+        Ok(Work {
             length,
             count: 0,
             cursor: Cursor {
@@ -39,12 +40,18 @@ pub fn without_log(length: u64, capacity: u64) -> Answer
             },
         })
     } else {
-        Answer::Refused(8)
+        Err(Refusal::FinalLength)
     }
 }
 
 // Of the log that stands at log_offset in the image of this length.
-pub fn sequence(log: &[u8], log_offset: u64, length: u64, capacity: u64, found: Sequence) -> Answer
+pub fn sequence(
+    log: &[u8],
+    log_offset: u64,
+    length: u64,
+    capacity: u64,
+    found: Sequence,
+) -> Result<Work, Refusal>
     requires { Walkable log.now found.start found.more }
     ensures { Stands log.now result (work (record { offset = log_offset; length = length_of log.now }) (entries_from log.now found.start found.more) length capacity) }
 {
@@ -54,7 +61,7 @@ pub fn sequence(log: &[u8], log_offset: u64, length: u64, capacity: u64, found: 
     };
     let head = ring::sector(log, entry::head(log, first, found.more));
     if length < header::flushed_file_offset(head) {
-        return Answer::Refused(6);
+        return Err(Refusal::ShorterThanFlushed);
     }
     let cursor = Cursor {
         pos: first,
@@ -64,17 +71,17 @@ pub fn sequence(log: &[u8], log_offset: u64, length: u64, capacity: u64, found: 
     };
     let all = survey::all(log, cursor, log_offset, log.len() as u64);
     if all.lies {
-        return Answer::Refused(7);
+        return Err(Refusal::ForbiddenSector);
     }
     let last = header::last_file_offset(head);
-    let length = number::greater(length, number::greater(last, all.end));
+    let length = length.max(last).max(all.end);
     if is_within(length, capacity) {
-        Answer::Apply(Work {
+        Ok(Work {
             length,
             count: all.count,
             cursor,
         })
     } else {
-        Answer::Refused(8)
+        Err(Refusal::FinalLength)
     }
 }

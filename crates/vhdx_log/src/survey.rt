@@ -4,7 +4,6 @@ ghost use Rattle.std.specs.Prelude.{◌≡◌};
 ghost use Rattle.vhdx_walk.specs.Cursor.{descriptors_left, Placed};
 ghost use Rattle.vhdx_log.specs.Survey.{survey_of, added};
 
-use crate::number;
 use vhdx_walk::cursor::{Cursor, Move};
 use vhdx_walk::run::Run;
 
@@ -25,22 +24,17 @@ impl Survey {
     pub fn add(self, run: Run, log_offset: u64, log_length: u64) -> Survey
         ensures { result ≡ added (record { offset = log_offset; length = log_length }) self run.offset run.length }
     {
-        let offset = run.offset;
-        let length = run.length;
-        let lies = extent::share_a_byte(offset, length, 0, extent::MIB)
-            | extent::share_a_byte(offset, length, log_offset, log_length);
-        let count = number::sum(self.count, length / 4096);
-        if length == 0 {
-            return Survey {
-                lies: self.lies | lies,
-                end: self.end,
-                count,
-            };
-        }
+        let end = if run.length == 0 {
+            0
+        } else {
+            run.offset.saturating_add(run.length)
+        };
         Survey {
-            lies: self.lies | lies,
-            end: number::greater(self.end, number::sum(offset, length)),
-            count,
+            lies: self.lies
+                || extent::share_a_byte(run.offset, run.length, 0, extent::MIB)
+                || extent::share_a_byte(run.offset, run.length, log_offset, log_length),
+            end: self.end.max(end),
+            count: self.count.saturating_add(run.length / 4096),
         }
     }
 }
@@ -56,6 +50,7 @@ pub fn all(log: &[u8], cursor: Cursor, log_offset: u64, log_length: u64) -> Surv
         count: 0,
     };
     let mut rest = cursor;
+    // a `loop`: a move is one of three cases, and the last one answers
     loop {
         match rest.next(log) {
             Move::Done => return found,

@@ -1,7 +1,7 @@
 -- What is known of a sector that the disk has, and of what a BAT entry stores.
 -- Assumes nothing.
-use mathlib.Core.Path.{◌≡◌, refl}
-use mathlib.Core.Bool.{Bool, true, false, and-eq-true_iff}
+use mathlib.Core.Path.{◌≡◌}
+use mathlib.Core.Bool.{true, and-eq-true_iff}
 use Prim.Native.Nat.{ℕ, ◌+◌, ◌*◌, ◌/◌, ◌^◌, ◌≤◌, ◌<◌}
 use native.Mathlib.Nat.{le-div_iff_mul-le, div-le_self, mod-lt}
 use native.Mathlib.Omega.{arith}
@@ -14,8 +14,7 @@ use Rattle.vhdx_facts.specs.Geometry.{ratio, blocks, needed_entries}
 use Rattle.vhdx_facts.proofs.Laws.{sizes, counts}
 use Rattle.vhdx_facts.proofs.Chunks.{chunk-of-sector}
 use Rattle.vhdx_facts.proofs.Entries.{block-of-byte, chunk-of-block, block-entry-needed, bitmap-entry-needed}
-use Rattle.vhdx_map.specs.Entry.{state, offset_of, row, stored_rule, bitmap_rule}
-use Rattle.vhdx_map.specs.declared.entry.Meaning.{Meaning}
+use Rattle.vhdx_map.specs.Entry.{state, offset_of, stored_rule, bitmap_rule}
 use Rattle.vhdx_map.specs.Lookup.{block_of, into_block, payload_index, bitmap_index, sector_rule}
 
 -- ---- a sector that the disk has
@@ -65,11 +64,6 @@ module _ (f : Facts) (s : ℕ) (h : sizes_rule f ≡ true) (k : sector_rule f s 
   bitmap-needed = bitmap-entry-needed f h (block_of f s / ratio f) (chunk-of-block f h (block_of f s) block-below)
 
 -- ---- what an entry says and stores
-
--- a row with the same answer in both columns
-pub same-in-both : (parent : Bool) (m : Meaning) → row parent m m ≡ m
-same-in-both true m = refl
-same-in-both false m = refl
 
 pub stored-inside : (n size e : ℕ) → stored_rule n size e ≡ true → offset_of e + size ≤ n
 unfolding stored_rule

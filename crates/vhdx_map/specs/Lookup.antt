@@ -13,14 +13,8 @@ use Rattle.vhdx_fit.specs.Fit.{fits}
 use Rattle.vhdx_map.specs.Entry.{state, offset_of, meaning, stored_rule, bitmap_rule}
 use Rattle.vhdx_map.specs.declared.entry.Meaning.{Meaning}
 use Rattle.vhdx_map.specs.declared.entry.Meaning.TheVariants.{ReadsZero, ReadsParent, FullyPresent, PartiallyPresent, Invalid}
-use Rattle.vhdx_map.specs.declared.Answer.{Answer}
-use Rattle.vhdx_map.specs.declared.Answer.TheVariants.{Refused, File, Zero, Parent}
-
--- where the bytes of a sector are: in the file from this offset on; they are zero; in the parent
-pub data Location : Type 0 where
-  in_file : ℕ → Location
-  zeros : Location
-  in_parent : Location
+use Rattle.vhdx_map.specs.declared.Place.{Place}
+use Rattle.vhdx_map.specs.declared.Place.TheVariants.{File, Zero, Parent}
 
 -- ---- the sector's block, its entry, its bitmap's entry
 
@@ -71,58 +65,51 @@ unfoldable pub sector_rule : Facts → ℕ → Bool
 sector_rule f s = nat_lt s (f.disk_size / f.logical_sector_size)
 
 -- in the block that entry e stores
-abbrev pub in_block : Facts → ℕ → ℕ → Location
-in_block f s e = in_file (offset_of e + into_block f s)
+abbrev pub in_block : Facts → ℕ → ℕ → Place
+in_block f s e = File (offset_of e + into_block f s)
 
 -- "bitmap bit 1 file, 0 parent", "lowest bit of each byte first"
-abbrev pub by_bit : Facts → ℕ → ℕ → ℕ → Location
-by_bit f s e byte = cond (bit_of byte (lowest_first (bit_number s))) (in_block f s e) in_parent
+abbrev pub by_bit : Facts → ℕ → ℕ → ℕ → Place
+by_bit f s e byte = cond (bit_of byte (lowest_first (bit_number s))) (in_block f s e) Parent
 
 -- 19: "state 6 or 7, and the block starts below 1 MiB or ends past the image"
-abbrev pub full : ℕ → Facts → ℕ → ℕ → Outcome Location
+abbrev pub full : ℕ → Facts → ℕ → ℕ → Outcome Place
 full n f s e = check (stored_rule n f.block_size e) (refused 19) (answered (in_block f s e))
 
 -- 20: "state 7, and the bitmap entry is not state 6, or .."
-abbrev pub partial : ℕ → Facts → ℕ → ℕ → ℕ → ℕ → Outcome Location
+abbrev pub partial : ℕ → Facts → ℕ → ℕ → ℕ → ℕ → Outcome Place
 partial n f s e b byte =
     check (stored_rule n f.block_size e) (refused 19) (check (bitmap_rule n b) (refused 20) (answered (by_bit f s e byte)))
 
 -- the same, with what an image says of the bitmap
-unfoldable pub partial_in : Facts → List ℕ → ℕ → ℕ → Outcome Location
+unfoldable pub partial_in : Facts → List ℕ → ℕ → ℕ → Outcome Place
 partial_in f image s e = let b = bitmap_of f image s in partial (length image) f s e b (bitmap_byte image b s)
 
 -- by the payload entry e, the bitmap entry b and the bitmap's byte, in an image of n bytes. 18: "state 4 or 5, or state 7 without a
 -- parent"
-unfoldable pub located : ℕ → Facts → ℕ → ℕ → ℕ → ℕ → Meaning → Outcome Location
-located n f s e b byte ReadsZero = answered zeros
-located n f s e b byte ReadsParent = answered in_parent
+unfoldable pub located : ℕ → Facts → ℕ → ℕ → ℕ → ℕ → Meaning → Outcome Place
+located n f s e b byte ReadsZero = answered Zero
+located n f s e b byte ReadsParent = answered Parent
 located n f s e b byte Invalid = refused 18
 located n f s e b byte FullyPresent = full n f s e
 located n f s e b byte PartiallyPresent = partial n f s e b byte
 
 -- what the image says of a sector that the disk has
-unfoldable pub in_image_at : Facts → List ℕ → ℕ → Outcome Location
+unfoldable pub in_image_at : Facts → List ℕ → ℕ → Outcome Place
 in_image_at f image s =
     let e = payload_of f image s in
     let b = bitmap_of f image s in
     located (length image) f s e b (bitmap_byte image b s) (says f e)
 
 -- the lookup. The image is the first n bytes of the buffer
-unfoldable pub lookup : Facts → List ℕ → ℕ → ℕ → Outcome Location
+unfoldable pub lookup : Facts → List ℕ → ℕ → ℕ → Outcome Place
 lookup f buffer n s =
     check (fits (length buffer) n f) (refused 16) (check (sector_rule f s) (refused 17) (in_image_at f (take n buffer) s))
 
--- what the code answers
-abbrev pub outcome : Answer → Outcome Location
-outcome (Refused c) = refused c
-outcome (File at) = answered (in_file at)
-outcome Zero = answered zeros
-outcome Parent = answered in_parent
-
 -- an answer in two figures, as it is told to a program: 0 refused, by this number; 1 in the file, at this offset; 2 zero; 3 the
 -- parent's
-abbrev pub figures : Outcome Location → ℕ × ℕ
+abbrev pub figures : Outcome Place → ℕ × ℕ
 figures (refused c) = (0, c)
-figures (answered (in_file at)) = (1, at)
-figures (answered zeros) = (2, 0)
-figures (answered in_parent) = (3, 0)
+figures (answered (File at)) = (1, at)
+figures (answered Zero) = (2, 0)
+figures (answered Parent) = (3, 0)

@@ -12,8 +12,7 @@ fn at(facts: Facts, image: &[u8], i: u64) -> u64
     requires { (facts_fit (length image.now) facts ≡ true) × (i < needed_entries facts) }
     ensures { result ≡ bat_entry facts image.now i }
 {
-    let bat = facts.bat;
-    field::u64_at(extent::part(image, bat), 8 * i as usize)
+    field::u64_at(extent::part(image, facts.bat), 8 * i as usize)
 }
 
 // Of the sector's block.

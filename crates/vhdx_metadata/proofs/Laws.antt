@@ -3,15 +3,13 @@
 use mathlib.Core.Path.{◌≡◌, refl, sym, ap, ◌∙◌}
 use mathlib.Core.Bool.{Bool, true, false, cond, not, ◌&&◌, ◌||◌, and-eq-true_iff}
 use mathlib.Core.List.{List}
-use mathlib.Core.Option.{Option, none, some}
+use Rattle.std.specs.Prelude.{Option, None, Some, is_some}
 use Prim.Native.Nat.{ℕ, ◌+◌, ◌%◌, ◌≤◌, ◌<◌}
 use native.Mathlib.Omega.{arith}
 use lib.Dec.{eqb, leb, ltb}
 use lib.ListN.{length, get_or}
-use borrow.Author.Tests.{ltb-true, leb-true, eqb-true, not-true}
-use Rattle.decision.specs.declared.Index.{Index}
-use Rattle.decision.specs.declared.Index.TheVariants.{At}
-use Rattle.decision.specs.Bounded.{every, is_some, found}
+use borrow.Author.Tests.{ltb-true, leb-true, eqb-true}
+use Rattle.decision.specs.Bounded.{every}
 use Rattle.decision.specs.Refusal.{answered}
 use Rattle.decision.proofs.Laws.{every-at, first_holds, check-answered}
 use Rattle.field.specs.declared.Guid.{Guid}
@@ -20,9 +18,9 @@ use Rattle.field.proofs.Laws.{number_at}
 use Rattle.extent.specs.declared.Extent.{Extent}
 use Rattle.extent.specs.Extent.{mib, inside}
 use Rattle.guid.specs.Stored.{row_of}
-use Rattle.vhdx_metadata.specs.Known.{known_items, known_lengths, any_length, parent_locator}
+use Rattle.vhdx_metadata.specs.Known.{known_items, known_lengths, parent_locator}
 use Rattle.vhdx_metadata.specs.Table.{metadata, entry_count, table_rule, entry, item_offset, item_length, item_extent, is_user, length_rule, offset_rule, location_rule, unique_rule, is_known, required_rule, own_rule, entry_rule, entries_rule, metadata_rule}
-use Rattle.vhdx_metadata.specs.Items.{is_item, entry_of, is_there_at, is_there, extent_at, extent_of, has_parent_of, needed_rule, contents, items}
+use Rattle.vhdx_metadata.specs.Items.{is_item, entry_of, is_length, is_there_at, is_there, extent_at, extent_of, has_parent_of, needed_rule, contents, items}
 use Rattle.vhdx_metadata.specs.declared.Items.{Items}
 
 both : (a b : Bool) → (a && b) ≡ true → (a ≡ true) × (b ≡ true)
@@ -31,11 +29,11 @@ both a b = (and-eq-true_iff a b).0
 -- ---- an entry
 
 -- an entry is known by the row that its identifier is found in
-pub known-by-row : (e : List ℕ) → 8 ≤ length e → {table : List (List ℕ)} {g : Guid} {x y : Index} → table ≡ known_items → g ≡ guid_at e 0 → found x ≡ row_of table (number g) → x ≡ y → is_known e ≡ (not (is_user e) && is_some (found y))
+pub known-by-row : (e : List ℕ) → 8 ≤ length e → {table : List (List ℕ)} {g : Guid} {x : Option ℕ} → table ≡ known_items → g ≡ guid_at e 0 → x ≡ row_of table (number g) → is_known e ≡ (not (is_user e) && is_some x)
 unfolding is_known
-known-by-row e h {g} p q f k =
+known-by-row e h {g} p q f =
     let id : number g ≡ field e 0 16 = ap number q ∙ number_at e 0 h in
-    rw (← id, ← p, ← f, k)
+    rw (← id, ← p, ← f)
 
 -- an item without bytes stands at 0, so it lies inside too
 offset-inside : (n : ℕ) (p : Extent) → offset_rule n p ≡ true → p.offset + p.length ≤ n
@@ -62,13 +60,13 @@ pub count-limit : (r : List ℕ) → table_rule r ≡ true → entry_count r ≤
 unfolding table_rule
 count-limit r h = leb-true _ _ (both (starts r metadata) (leb (entry_count r) 2047) h).1
 
-entry-counted : (r : List ℕ) (row : ℕ) {i : ℕ} → entry_of r row ≡ some i → i < entry_count r
+entry-counted : (r : List ℕ) (row : ℕ) {i : ℕ} → entry_of r row ≡ Some i → i < entry_count r
 unfolding entry_of
 entry-counted r row h = (first_holds (λ (i : ℕ). is_item row (entry r i)) (entry_count r) h).0
 
 -- an entry that a search found is one that can be read
-pub found_below : (r : List ℕ) (row : ℕ) {x : Index} {i : ℕ} → table_rule r ≡ true → found x ≡ entry_of r row → x ≡ At i → i < 2047
-found_below r row h f k = omega (arith, count-limit r h, entry-counted r row (sym f ∙ ap found k))
+pub found_below : (r : List ℕ) (row : ℕ) {i : ℕ} → table_rule r ≡ true → entry_of r row ≡ Some i → i < 2047
+found_below r row h e = omega (arith, count-limit r h, entry-counted r row e)
 
 -- ---- what the rules of refusal 12 say
 
@@ -97,23 +95,31 @@ module _ (r : List ℕ) (h : metadata_rule r ≡ true) where
   extent-inside row {e} k = go (entry_of r row) refl k
     where
       go : (o : Option ℕ) → entry_of r row ≡ o → e ≡ extent_at r o → e.offset + e.length ≤ length r
-      go none f k = rw k (omega arith)
-      go (some i) f k = rw k (item-inside i (entry-counted r row f))
+      go None f k = rw k (omega arith)
+      go (Some i) f k = rw k (item-inside i (entry-counted r row f))
 
 -- ---- the items
 
 -- the first five have a length of their own
-fixed : (row : ℕ) → row < 5 → eqb (get_or known_lengths row 0) any_length ≡ false
+fixed : (row : ℕ) → row < 5 → is_some (get_or known_lengths row None) ≡ true
 unfolding every known_lengths
-fixed row b = not-true _ (every-at (λ (k : ℕ). not (eqb (get_or known_lengths k 0) any_length)) 5 row refl b)
+fixed row b = every-at (λ (k : ℕ). is_some (get_or known_lengths k None)) 5 row refl b
 
-pub extent-fixed : (r : List ℕ) (row : ℕ) → row < 5 → is_there r row ≡ true → (extent_of r row).length ≡ get_or known_lengths row 0
+its-length : (l : Option ℕ) (n : ℕ) → is_some l ≡ true → is_length l n ≡ true → l ≡ Some n
+its-length None n s h = let z : ◌≡◌ {A = ℕ} 0 1 = cc in absurd (omega arith)
+its-length (Some m) n s h = ap (λ (k : ℕ). Some k) (sym (eqb-true n m h))
+
+pub extent-fixed : (r : List ℕ) (row : ℕ) → row < 5 → is_there r row ≡ true → get_or known_lengths row None ≡ Some (extent_of r row).length
 unfolding is_there extent_of
 extent-fixed r row b h = go (entry_of r row) h
   where
-    go : (o : Option ℕ) → is_there_at r row o ≡ true → (extent_at r o).length ≡ get_or known_lengths row 0
-    go none h = let z : ◌≡◌ {A = ℕ} 0 1 = cc in absurd (omega arith)
-    go (some i) h = eqb-true (item_length (entry r i)) (get_or known_lengths row 0) (rw (fixed row b) at h)
+    go : (o : Option ℕ) → is_there_at r row o ≡ true → get_or known_lengths row None ≡ Some (extent_at r o).length
+    go None h = let z : ◌≡◌ {A = ℕ} 0 1 = cc in absurd (omega arith)
+    go (Some i) h = its-length (get_or known_lengths row None) (item_length (entry r i)) (fixed row b) h
+
+-- the length, where the table gives one
+pub fixed_length : {m n : ℕ} → Some m ≡ Some n → n ≡ m
+fixed_length e = cc e
 
 -- what the code asks where it reads one of the first five, which are needed
 pub readable : (r : List ℕ) → (length r % mib ≡ 0) × (metadata_rule r ≡ true) × (needed_rule r ≡ true) → (row : ℕ) → row < 5 → (65536 ≤ length r) × (metadata_rule r ≡ true) × (row < 5) × (is_there r row ≡ true)

@@ -1,7 +1,7 @@
 -- "The six known system identifiers are held as one table with their lengths" (document 01, "Regions and items"; the identifiers
 -- as MS-VHDX 2.6.2 writes them).
 -- Assumes nothing.
-use Rattle.std.specs.Prelude.{List, [], ◌∷◌, ℕ, ◌-◌, ◌^◌}
+use Rattle.std.specs.Prelude.{List, [], ◌∷◌, ℕ, Option, None, Some}
 use Rattle.guid.specs.Stored.{stored}
 
 -- "file parameters 8, disk size 8, logical and physical sector size 4 each, disk identifier 16, parent locator any": the rows
@@ -33,9 +33,6 @@ known_items =
     ∷ stored 0xA8D35F2D 0xB30B 0x454D 0xABF7 0xD3D84834AB0C
     ∷ []
 
--- stands for "any": no length in a table's four bytes equals it
-abbrev pub any_length : ℕ
-any_length = 2 ^ 64 - 1
-
-unfoldable pub known_lengths : List ℕ
-known_lengths = 8 ∷ 8 ∷ 4 ∷ 4 ∷ 16 ∷ any_length ∷ []
+-- None stands for "any"
+unfoldable pub known_lengths : List (Option ℕ)
+known_lengths = Some 8 ∷ Some 8 ∷ Some 4 ∷ Some 4 ∷ Some 16 ∷ None ∷ []

@@ -1,8 +1,8 @@
 -- The metadata table: the rule of the table and of its entries, refusal 12 (document 01, "Regions and items", second paragraph;
 -- MS-VHDX 2.6.1). A region r is the list of the metadata region's bytes.
 -- Assumes nothing.
-use Rattle.std.specs.Prelude.{Bool, cond, not, ◌&&◌, ◌||◌, List, [], ◌∷◌, ℕ, ◌+◌, ◌*◌, ◌/◌, ◌%◌, nat_eq, nat_le, nat_lt, length, take, drop}
-use Rattle.decision.specs.Bounded.{every, is_some}
+use Rattle.std.specs.Prelude.{Bool, cond, not, ◌&&◌, ◌||◌, List, [], ◌∷◌, ℕ, ◌+◌, ◌*◌, ◌/◌, ◌%◌, nat_eq, nat_le, nat_lt, length, take, drop, is_some}
+use Rattle.decision.specs.Bounded.{every}
 use Rattle.field.specs.Fields.{field, starts}
 use Rattle.extent.specs.declared.Extent.{Extent}
 use Rattle.extent.specs.Extent.{mib, inside}

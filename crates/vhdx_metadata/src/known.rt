@@ -1,5 +1,5 @@
 // The six known system identifiers as they are stored, the first three groups reversed, and the lengths of their items.
-ghost use Rattle.std.specs.Prelude.{◌≡◌};
+ghost use Rattle.std.specs.Prelude.{◌≡◌, ◌<◌, get_or, None};
 ghost use Rattle.vhdx_metadata.specs.Known.{known_items, known_lengths};
 
 // Rows of the table.
@@ -15,7 +15,7 @@ pub const DISK_IDENTIFIER: usize = 4;
 
 pub const PARENT_LOCATOR: usize = 5;
 
-const IDENTIFIERS: [[u8; 16]; 6] = [
+static IDENTIFIERS: [[u8; 16]; 6] = [
     // file parameters: CAA16737-FA36-4D43-B3B6-33F0AA44E76B
     *b"\x37\x67\xa1\xca\x36\xfa\x43\x4d\xb3\xb6\x33\xf0\xaa\x44\xe7\x6b",
     // disk size: 2FA54224-CD1B-4876-B211-5DBED83BF4B8
@@ -30,19 +30,19 @@ const IDENTIFIERS: [[u8; 16]; 6] = [
     *b"\x2d\x5f\xd3\xa8\x0b\xb3\x4d\x45\xab\xf7\xd3\xd8\x48\x34\xab\x0c",
 ];
 
-// Stands for any length: none in a table's four bytes equals it.
-pub const ANY: u64 = 0xffffffffffffffff;
+// None where any length will do.
+const LENGTHS: [Option<u64>; 6] = [Some(8), Some(8), Some(4), Some(4), Some(16), None];
 
-const LENGTHS: [u64; 6] = [8, 8, 4, 4, 16, ANY];
-
-pub fn identifiers() -> [[u8; 16]; 6]
-    ensures { result ≡ known_items }
+pub fn identifiers() -> &'static [[u8; 16]; 6]
+    ensures { result.now ≡ known_items }
 {
-    IDENTIFIERS
+    &IDENTIFIERS
 }
 
-pub fn lengths() -> [u64; 6]
-    ensures { result ≡ known_lengths }
+// The length of the item in this row, if it has one of its own.
+pub fn length(row: usize) -> Option<u64>
+    requires { row < 6 }
+    ensures { result ≡ get_or known_lengths row None }
 {
-    LENGTHS
+    LENGTHS[row]
 }

@@ -10,14 +10,16 @@ pub mod location;
 mod table;
 
 ghost use Rattle.std.specs.Prelude.{true, ◌≡◌, ◌%◌, length as length_of};
+ghost use Rattle.decision.specs.Refusal.{outcome};
 ghost use Rattle.extent.specs.Extent.{mib};
 ghost use Rattle.vhdx_metadata.specs.Table.{metadata_rule};
-ghost use Rattle.vhdx_metadata.specs.Items.{needed_rule, contents as contents_of, items, outcome};
+ghost use Rattle.vhdx_metadata.specs.Items.{needed_rule, contents as contents_of, items};
 
+use decision::Refusal;
 use extent::Extent;
 
 // What the items say. The locator's extent is in the region, and nowhere if there is no such item.
-#[derive(Clone, Copy)]
+#[derive(Clone, Copy, Debug, PartialEq, Eq, Drop)]
 pub struct Items {
     pub block_size: u64,
     pub has_parent: bool,
@@ -28,25 +30,19 @@ pub struct Items {
     pub locator: Extent,
 }
 
-#[derive(Clone, Copy)]
-pub enum Answer {
-    // document 01's number
-    Refused(u64),
-    Found(Items),
-}
-
 // Of a metadata region, whose length is a multiple of 1 MiB.
-pub fn read(region: &[u8]) -> Answer
+#[tactic(auto, unfolding(crate::specs::Items::items))]
+pub fn read(region: &[u8]) -> Result<Items, Refusal>
     requires { length_of region.now % mib ≡ 0 }
     ensures { outcome result ≡ items region.now }
 {
     if !table::keeps_rules(region) {
-        return Answer::Refused(12);
+        return Err(Refusal::MetadataEntry);
     }
     if !item::needed_are_there(region) {
-        return Answer::Refused(13);
+        return Err(Refusal::ItemMissing);
     }
-    Answer::Found(contents(region))
+    Ok(contents(region))
 }
 
 fn contents(region: &[u8]) -> Items

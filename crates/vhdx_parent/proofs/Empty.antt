@@ -4,7 +4,7 @@ use mathlib.Core.Path.{◌≡◌, refl}
 use mathlib.Core.Bool.{Bool, true, false, cond, ◌&&◌}
 use mathlib.Core.List.{List}
 use mathlib.Core.Logic.{◌⊎◌, inl, inr, ⊎_elim, ◌↔◌}
-use mathlib.Core.Option.{Option, none, some}
+use Rattle.std.specs.Prelude.{Option, None, Some}
 use Prim.Native.Nat.{ℕ, ◌<◌}
 use native.Mathlib.Omega.{arith}
 use lib.ListN.{length, take}
@@ -19,7 +19,7 @@ use Rattle.vhdx_parent.specs.Key.{within, in_locator, key_extent, EmptyExactlyTh
 clash : {t : Bool} {A : Type 0} → t ≡ true → t ≡ false → A
 clash p q = let z : ◌≡◌ {A = ℕ} 0 1 = cc in absurd (omega arith)
 
-found-not : {o : Option ℕ} {i : ℕ} {A : Type 0} → o ≡ some i → o ≡ none → A
+found-not : {o : Option ℕ} {i : ℕ} {A : Type 0} → o ≡ Some i → o ≡ None → A
 found-not p q = let z : ◌≡◌ {A = ℕ} 0 1 = cc in absurd (omega arith)
 
 -- the value of an entry that keeps its rule has a byte
@@ -34,12 +34,12 @@ empty-exactly-then f buffer n key =
   where
     go : (item : List ℕ) (t u r : Bool) (o : Option ℕ) → fits (length buffer) n f ≡ t → f.has_parent ≡ u → locator_rule item ≡ r → entry_of item key ≡ o
         → ((cond (t && u) (within f.locator.offset (cond r (value_at item o) nowhere)) nowhere).length ≡ 0)
-        ↔ ((fits (length buffer) n f ≡ false) ⊎ ((f.has_parent ≡ false) ⊎ ((locator_rule item ≡ false) ⊎ (entry_of item key ≡ none))))
+        ↔ ((fits (length buffer) n f ≡ false) ⊎ ((f.has_parent ≡ false) ⊎ ((locator_rule item ≡ false) ⊎ (entry_of item key ≡ None))))
     go item false u r o a b c d = (λ e. inl a, λ v. refl)
     go item true false r o a b c d = (λ e. inr (inl b), λ v. refl)
     go item true true false o a b c d = (λ e. inr (inr (inl c)), λ v. refl)
-    go item true true true none a b c d = (λ e. inr (inr (inr d)), λ v. refl)
-    go item true true true (some i) a b c d = (
-      with-a-byte f.locator.offset (value_at item (some i)) (value_found item key c d).not_empty,
+    go item true true true None a b c d = (λ e. inr (inr (inr d)), λ v. refl)
+    go item true true true (Some i) a b c d = (
+      with-a-byte f.locator.offset (value_at item (Some i)) (value_found item key c d).not_empty,
       ⊎_elim (clash a) (⊎_elim (clash b) (⊎_elim (clash c) (found-not d))),
     )

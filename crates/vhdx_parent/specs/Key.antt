@@ -1,8 +1,7 @@
 -- Where the value of a parent locator's key lies in the image (document 01, "What the gate does": "Parent key"). A key is its bytes,
 -- compared byte for byte. The image is the first n bytes of the buffer.
 -- Assumes nothing.
-use Rattle.std.specs.Prelude.{false, cond, ◌&&◌, List, ◌⊎◌, ◌↔◌, ◌≡◌, ℕ, ◌+◌, nat_lt, length, take}
-use Rattle.std.proofs.Math.Option.{none}
+use Rattle.std.specs.Prelude.{false, cond, ◌&&◌, List, ◌⊎◌, ◌↔◌, ◌≡◌, ℕ, ◌+◌, nat_lt, length, take, None}
 use Rattle.extent.specs.declared.Extent.{Extent}
 use Rattle.extent.specs.Extent.{nowhere, part}
 use Rattle.vhdx_facts.specs.declared.Facts.{Facts}
@@ -26,7 +25,7 @@ key_extent f buffer n key = cond (fits (length buffer) n f && f.has_parent) (in_
 abbrev pub NoValue : Facts → List ℕ → ℕ → List ℕ → Type 0
 NoValue f buffer n key =
     let item = part (take n buffer) f.locator in
-    (fits (length buffer) n f ≡ false) ⊎ ((f.has_parent ≡ false) ⊎ ((locator_rule item ≡ false) ⊎ (entry_of item key ≡ none)))
+    (fits (length buffer) n f ≡ false) ⊎ ((f.has_parent ≡ false) ⊎ ((locator_rule item ≡ false) ⊎ (entry_of item key ≡ None)))
 
 -- the theorem, proved in proofs/Empty.antt
 abbrev pub EmptyExactlyThen : Type 0

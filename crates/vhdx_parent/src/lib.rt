@@ -19,15 +19,12 @@ pub fn value<'a>(facts: Facts, buffer: &'a [u8], length: u64, key: &[u8]) -> &'a
 }
 
 // The same answer as offset and length, 0 and 0 where there is no value.
+#[tactic(auto, unfolding(crate::specs::Key::key_extent))]
 pub fn value_extent(facts: Facts, buffer: &[u8], length: u64, key: &[u8]) -> Extent
     ensures { result ≡ key_extent facts buffer.now length key.now }
 {
-    if !vhdx_fit::fits(facts, buffer.len() as u64, length) {
-        return extent::nowhere();
-    }
-    if facts.has_parent {
-        let end = length as usize;
-        in_locator(facts, &buffer[..end], key)
+    if vhdx_fit::fits(facts, buffer.len() as u64, length) && facts.has_parent {
+        in_locator(facts, &buffer[..length as usize], key)
     } else {
         extent::nowhere()
     }
@@ -38,11 +35,8 @@ fn in_locator(facts: Facts, image: &[u8], key: &[u8]) -> Extent
     requires { facts.locator.offset + facts.locator.length ≤ length_of image.now }
     ensures { result ≡ in_locator facts image.now key.now }
 {
-    let locator = facts.locator;
-    from_start(
-        locator.offset,
-        vhdx_locator::value(extent::part(image, locator), key),
-    )
+    let item = extent::part(image, facts.locator);
+    from_start(facts.locator.offset, vhdx_locator::value(item, key))
 }
 
 // A part of what starts at an offset, told from the image's start.
@@ -51,10 +45,7 @@ fn from_start(offset: u64, e: Extent) -> Extent
     ensures { result ≡ within offset e }
 {
     if 0 < e.length {
-        Extent {
-            offset: offset + e.offset,
-            length: e.length,
-        }
+        extent::shifted(offset, e)
     } else {
         extent::nowhere()
     }

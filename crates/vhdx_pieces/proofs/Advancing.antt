@@ -6,11 +6,9 @@ use Prim.Native.Nat.{ℕ, zero, suc, ◌+◌, ◌≤◌, ◌<◌}
 use native.Mathlib.Omega.{arith}
 use lib.Dec.{ltb}
 use borrow.Author.Tests.{ne_eqb, lt-ltb}
+use Rattle.std.specs.Prelude.{Ok, Err}
+use Rattle.std.specs.declared.ops.ControlFlow.TheVariants.{Continue, Break}
 use Rattle.vhdx_pieces_plan.specs.declared.Order.{Order}
-use Rattle.vhdx_pieces_plan.specs.declared.Outcome.{Outcome}
-use Rattle.vhdx_pieces_plan.specs.declared.Outcome.TheVariants as outcome
-use Rattle.vhdx_pieces_plan.specs.declared.Step as plan
-use Rattle.vhdx_pieces_plan.specs.declared.Step.TheVariants as plan_step
 use Rattle.vhdx_pieces_plan.specs.Planning as planning
 use Rattle.vhdx_pieces_plan.specs.Planning.{sectors_of, OrderFor}
 use Rattle.vhdx_pieces_plan.proofs.Advancing.{plan-advances}
@@ -46,9 +44,9 @@ module _ (o : Order) (for : OrderFor o.length o) where
   unfolding walk_from
   from-below = walk-below o.count (walking.started (record { at = o.start; len = sectors_of o.log }) o.left) (suc work_most) (omega arith) starts.0 (omega (arith, starts.1))
 
-order_below : (n : ℕ) (o : Outcome) (k : ℕ) → suc work_most < k → planning.Ordered n o → Below k (ordered n o)
-order_below n (outcome.Refused c) k l h = (tt, omega arith)
-order_below n (outcome.Apply o) k l h = go (ltb n o.length)
+order_below : (n : ℕ) (o : planning.Outcome) (k : ℕ) → suc work_most < k → planning.Ordered n o → Below k (ordered n o)
+order_below n (Err r) k l h = (tt, omega arith)
+order_below n (Ok o) k l h = go (ltb n o.length)
   where
     for : OrderFor o.length o
     for = record { longer = omega arith; limited = h.limited; short = h.short; inside = omega (arith, h.inside, h.longer); left = h.left; start = h.start }
@@ -57,15 +55,15 @@ order_below n (outcome.Apply o) k l h = go (ltb n o.length)
     go true = (for, l)
     go false = ((from-below o for).0, omega (arith, (from-below o for).1))
 
-plan-below : (n : ℕ) (st : plan.Step) (k : ℕ) → 0 < k → planning.Kept n st → planning.left_of st < k → Below (k + suc work_most) (planned n st)
-plan-below n (plan_step.Read p) k s h l = (h.0, omega arith)
-plan-below n (plan_step.Ended o) k s h l = order_below n o (k + suc work_most) (omega arith) h
+plan-below : (n : ℕ) (st : planning.Step) (k : ℕ) → 0 < k → planning.Kept n st → planning.left_of st < k → Below (k + suc work_most) (planned n st)
+plan-below n (Continue p) k s h l = (h.0, omega arith)
+plan-below n (Break o) k s h l = order_below n o (k + suc work_most) (omega arith) h
 
 pub machine-advances : MachineAdvances
 unfolding step_of
 machine-advances (Planning p) s h =
     let a = plan-advances p s h in
-    plan-below p.context.length (planning.step_of p s) (planning.left_of (plan_step.Read p)) (omega (arith, a.1)) a.0 a.1
+    plan-below p.context.length (planning.step_of p s) (planning.left_of (Continue p)) (omega (arith, a.1)) a.0 a.1
 machine-advances (Growing o) s h = from-below o h
 machine-advances (Reading d) s h =
     let o = d.order in

@@ -8,12 +8,10 @@ use native.Mathlib.Nat.{mod-lt}
 use native.Mathlib.Omega.{arith}
 use lib.Dec.{ltb, lit≤}
 use borrow.Author.Tests.{ne_eqb, lt-ltb, ltb-true, ltb-false}
+use Rattle.std.specs.Prelude.{Ok, Err}
+use Rattle.std.specs.declared.ops.ControlFlow.TheVariants.{Continue, Break}
 use Rattle.vhdx_pieces_plan.specs.declared.Order.{Order}
-use Rattle.vhdx_pieces_plan.specs.declared.Outcome.{Outcome}
-use Rattle.vhdx_pieces_plan.specs.declared.Outcome.TheVariants as outcome
 use Rattle.vhdx_pieces_plan.specs.declared.Planner.{Planner}
-use Rattle.vhdx_pieces_plan.specs.declared.Step as plan
-use Rattle.vhdx_pieces_plan.specs.declared.Step.TheVariants as plan_step
 use Rattle.vhdx_pieces_plan.specs.Planning as planning
 use Rattle.vhdx_pieces_plan.specs.Planning.{sectors_of, OrderFor, plan_most}
 use Rattle.vhdx_pieces_plan.proofs.Advancing.{plan-advances, plan-starts}
@@ -96,25 +94,25 @@ from-does n o h fuel l =
     let s = starts o for in
     walk-does n o h.inside fuel (walking.started (record { at = o.start; len = sectors_of o.log }) o.left) o.count s.0 (omega (arith, s.1))
 
-order-answers : (n : ℕ) (o : Outcome) (fuel : ℕ) → planning.Ordered n o → planning.NumberedIn o → work_most ≤ fuel → Answers n (suc fuel) (ordered n o)
+order-answers : (n : ℕ) (o : planning.Outcome) (fuel : ℕ) → planning.Ordered n o → planning.NumberedIn o → work_most ≤ fuel → Answers n (suc fuel) (ordered n o)
 unfolding step_of
-order-answers n (outcome.Refused c) fuel h q l = fed.refuses q.0 q.1
-order-answers n (outcome.Apply o) fuel h q l = go (ltb n o.length) refl
+order-answers n (Err r) fuel h q l = fed.refuses q.0 q.1
+order-answers n (Ok o) fuel h q l = go (ltb n o.length) refl
   where
     go : (b : Bool) → ltb n o.length ≡ b → Answers n (suc fuel) (cond b (Grow (Growing o)) (walk_from o))
     go true e = fed.grows {o = o} (ltb-true n o.length e) refl (λ p. from-does n o h fuel l)
     go false e = fed.orders {o = o} (omega (arith, h.longer, ltb-false n o.length e)) (from-does n o h (suc fuel) (omega arith))
 
 -- a plan's step, and the same with so many pieces to come
-abbrev Planned : ℕ → ℕ → plan.Step → Type 0
+abbrev Planned : ℕ → ℕ → planning.Step → Type 0
 Planned n fuel st = planning.Kept n st → planning.Numbered st → planning.left_of st ≤ fuel → Answers n (fuel + suc work_most) (planned n st)
 
 -- what was decided
-ended : (n fuel : ℕ) (o : Outcome) → Planned n fuel (plan_step.Ended o)
+ended : (n fuel : ℕ) (o : planning.Outcome) → Planned n fuel (Break o)
 ended n fuel o h q l =
     subst (λ (j : ℕ). Answers n j (ordered n o)) {x = suc (fuel + work_most)} {y = fuel + suc work_most} (omega arith) (order-answers n o (fuel + work_most) h q (omega arith))
 
-piece-more : (n fuel : ℕ) → ((st : plan.Step) → Planned n fuel st) → (p : Planner) → Planned n (suc fuel) (plan_step.Read p)
+piece-more : (n fuel : ℕ) → ((st : planning.Step) → Planned n fuel st) → (p : Planner) → Planned n (suc fuel) (Continue p)
 unfolding step_of
 piece-more n fuel ih p h q l =
     let w = plan-wants p h.0 in
@@ -126,11 +124,11 @@ piece-more n fuel ih p h q l =
     subst (λ (k : ℕ). Answers n (fuel + suc work_most) (planned k st)) (sym h.1)
     (ih st (subst (λ (k : ℕ). planning.Kept k st) h.1 a.0) (plan-refuses.1 p s) (omega (arith, a.1)))))
 
-plan-answers : (n fuel : ℕ) (st : plan.Step) → Planned n fuel st
-plan-answers n zero (plan_step.Read p) h q l = absurd (omega (arith, (plan-advances p [] h.0).1))
-plan-answers n zero (plan_step.Ended o) h q l = ended n zero o h q l
-plan-answers n (suc fuel) (plan_step.Read p) h q l = piece-more n fuel (plan-answers n fuel) p h q l
-plan-answers n (suc fuel) (plan_step.Ended o) h q l = ended n (suc fuel) o h q l
+plan-answers : (n fuel : ℕ) (st : planning.Step) → Planned n fuel st
+plan-answers n zero (Continue p) h q l = absurd (omega (arith, (plan-advances p [] h.0).1))
+plan-answers n zero (Break o) h q l = ended n zero o h q l
+plan-answers n (suc fuel) (Continue p) h q l = piece-more n fuel (plan-answers n fuel) p h q l
+plan-answers n (suc fuel) (Break o) h q l = ended n (suc fuel) o h q l
 
 pub always-answers : AlwaysAnswers
 always-answers n capacity few =

@@ -10,6 +10,8 @@ use lib.Dec.{ltb, lit≤}
 use lib.ListN.{length, take, drop, replicate, length-append, length-drop, length-replicate}
 use lib.Seq.{length-take-le, take-append-le, drop-append-le, drop-drop}
 use borrow.Author.Tests.{lt-ltb, lt-leb}
+use Rattle.std.specs.Prelude.{Ok, Err}
+use Rattle.decision.specs.declared.Refusal.TheVariants.{ImageLength}
 use Rattle.field.specs.Fields.{Bytes}
 use Rattle.field.proofs.Bytes.{bytes-append, bytes_take, bytes_drop, bytes-zeros}
 use Rattle.extent.specs.declared.Extent.{Extent}
@@ -22,12 +24,8 @@ use Rattle.vhdx_log.specs.Work.{Plan, refused, apply, count}
 use Rattle.vhdx_log.specs.Plan.{plan}
 use Rattle.vhdx_log.specs.Answers.{log_of}
 use Rattle.vhdx_log.proofs.Answering.{plan-refused}
-use Rattle.vhdx_header.specs.declared.Answer.TheVariants as answer
 use Rattle.vhdx_header.specs.Current.{current_header}
 use Rattle.vhdx_pieces_plan.specs.declared.Order.{Order}
-use Rattle.vhdx_pieces_plan.specs.declared.Outcome.{Outcome}
-use Rattle.vhdx_pieces_plan.specs.declared.Outcome.TheVariants as outcome
-use Rattle.vhdx_pieces_plan.specs.declared.Step as plan_step
 use Rattle.vhdx_pieces_plan.specs.Planning as planning
 use Rattle.vhdx_pieces_plan.specs.Planning.{sectors_of, sector_in}
 use Rattle.vhdx_pieces_plan.proofs.Planned.{plans-all}
@@ -42,7 +40,7 @@ use Rattle.vhdx_pieces.specs.Runs.{Request, grow, write, Result, refusal, finish
 
 module _ (f b : List ℕ) (same : (e : Extent) → e.offset + e.length ≤ length f → part b e ≡ part f e) where
   -- the planner's run
-  lift-plan : {st : plan_step.Step} {o : Outcome} {rs : List Request} {x : Result} → planning.Plans b (length f) st o
+  lift-plan : {st : planning.Step} {o : planning.Outcome} {rs : List Request} {x : Result} → planning.Plans b (length f) st o
       → ((p : List ℕ) → Ends f p (ordered (length f) o) rs x) → (p : List ℕ) → Ends f p (planned (length f) st) rs x
   unfolding step_of
   lift-plan planning.stop h p = h p
@@ -119,12 +117,12 @@ module _ (f b : List ℕ) (same : (e : Extent) → e.offset + e.length ≤ lengt
     does w true p = runs.grows {m = Growing o} (λ q. walks w q)
     does w false p = walks w p
 
-  outcome-ends : (o : Outcome) → planning.Decides b (length f) o → (p : List ℕ) → Ends f p (ordered (length f) o) (requests (length f) (plan b (length f))) (result_of (plan b (length f)))
-  outcome-ends (outcome.Refused c) d p = subst (λ (x : Plan). Ends f p (Refused c) (requests (length f) x) (result_of x)) d.same runs.refuses
-  outcome-ends (outcome.Apply o) d p =
+  outcome-ends : (o : planning.Outcome) → planning.Decides b (length f) o → (p : List ℕ) → Ends f p (ordered (length f) o) (requests (length f) (plan b (length f))) (result_of (plan b (length f)))
+  outcome-ends (Err r) d p = subst (λ (x : Plan). Ends f p (Refused r) (requests (length f) x) (result_of x)) d.same runs.refuses
+  outcome-ends (Ok o) d p =
       let counted : o.count ≡ length (named o) = d.counted ∙ sym (ap count d.same) in
-      subst (λ (x : Plan). Ends f p (ordered (length f) (outcome.Apply o)) (requests (length f) x) (result_of x)) d.same
-      (subst (λ (k : ℕ). Ends f p (ordered (length f) (outcome.Apply o)) (requests (length f) (apply o.length (named o))) (finished o.length k)) counted
+      subst (λ (x : Plan). Ends f p (ordered (length f) (Ok o)) (requests (length f) x) (result_of x)) d.same
+      (subst (λ (k : ℕ). Ends f p (ordered (length f) (Ok o)) (requests (length f) (apply o.length (named o))) (finished o.length k)) counted
       (does o counted d.walks (ltb (length f) o.length) p))
 
 -- ---- a buffer of the stated capacity
@@ -145,14 +143,14 @@ unfolding buffered
 bytes-buffered capacity f h = bytes_take capacity (f ++ replicate capacity 0) (bytes-append f (replicate capacity 0) h (bytes-zeros capacity))
 
 -- 1
-current-1 : (b : List ℕ) (n : ℕ) → length b < n → current_header b n ≡ answer.Refused 1
+current-1 : (b : List ℕ) (n : ℕ) → length b < n → current_header b n ≡ Err ImageLength
 unfolding current_header
 current-1 b n h = rw (lt-leb n (length b) h)
 
 too_long : (capacity : ℕ) (f : List ℕ) → capacity < length f → refused 1 ≡ plan (buffered capacity f) (length f)
-too_long capacity f h = plan-refused (buffered capacity f) (length f) 1 (refused-1 h)
+too_long capacity f h = plan-refused (buffered capacity f) (length f) ImageLength (refused-1 h)
   where
-    refused-1 : capacity < length f → current_header (buffered capacity f) (length f) ≡ answer.Refused 1
+    refused-1 : capacity < length f → current_header (buffered capacity f) (length f) ≡ Err ImageLength
     refused-1 h = current-1 (buffered capacity f) (length f) (omega (arith, length-buffered capacity f))
 
 pub faithful : Faithful

@@ -2,6 +2,9 @@
 -- way that the pieces may read. Nothing is said of their bytes.
 -- Assumes nothing.
 use Rattle.std.specs.Prelude.{List, ◌≡◌, ℕ, suc, ◌+◌, ◌≤◌, ◌<◌, length}
+use Rattle.decision.specs.declared.Refusal.{Refusal}
+use Rattle.decision.specs.declared.Refusal.TheVariants.{NoLogSequence}
+use Rattle.decision.specs.Refusal.{number}
 use Rattle.vhdx_pieces_plan.specs.declared.Order.{Order}
 use Rattle.vhdx_pieces_plan.specs.Planning.{plan_most}
 use Rattle.vhdx_pieces_walk.specs.Walking.{Apart}
@@ -24,13 +27,13 @@ Piece m p = length p ≡ (wanted_of m).length
 -- from the first MiB and from the log, and within the final length; done after exactly k writes, or refused as 5.
 pub data Does (n : ℕ) (o : Order) : ℕ → ℕ → Turn → Type 0 where
   done : {j : ℕ} → Does n o j 0 (Done (record { length = o.length; count = o.count }))
-  refuses : {j k : ℕ} → Does n o j k (Refused 5)
+  refuses : {j k : ℕ} → Does n o j k (Refused NoLogSequence)
   reads : {j k : ℕ} {m : Machine} → Wants n m → ((p : List ℕ) → Piece m p → Does n o j k (step_of m p)) → Does n o (suc j) k (Read m)
   writes : {j k : ℕ} {m : Machine} → ((p : List ℕ) → Apart (bounds_of o) (written_of m p)) → ((p : List ℕ) → Does n o j k (step_of m p)) → Does n o (suc j) (suc k) (Write m)
 
 -- Nothing is decided yet: at most j requests more; a refusal, or an order, with one growth before it where its length is greater
 pub data Answers (n : ℕ) : ℕ → Turn → Type 0 where
-  refuses : {j c : ℕ} → 1 ≤ c → c ≤ 8 → Answers n j (Refused c)
+  refuses : {j : ℕ} {r : Refusal} → 1 ≤ number r → number r ≤ 8 → Answers n j (Refused r)
   reads : {j : ℕ} {m : Machine} → Wants n m → ((p : List ℕ) → Piece m p → Answers n j (step_of m p)) → Answers n (suc j) (Read m)
   grows : {j : ℕ} {m : Machine} {o : Order} → n < o.length → growth_of m ≡ o.length → ((p : List ℕ) → Does n o j o.count (step_of m p)) → Answers n (suc j) (Grow m)
   orders : {j : ℕ} {t : Turn} {o : Order} → o.length ≡ n → Does n o j o.count t → Answers n j t

@@ -1,15 +1,14 @@
 -- The log's work in pieces (change request Q-13: "it says which bytes of the file it wants next or which it wants written, and is told
 -- they are there"): what a machine asks for, and what it does when that is done.
 -- Assumes nothing.
-use Rattle.std.specs.Prelude.{Bool, false, cond, List, ◌≡◌, ℕ, suc, ◌+◌, ◌-◌, ◌*◌, ◌<◌, nat_eq, nat_lt}
+use Rattle.std.specs.Prelude.{Bool, false, cond, List, Ok, Err, ◌≡◌, ℕ, suc, ◌+◌, ◌-◌, ◌*◌, ◌<◌, nat_eq, nat_lt}
+use Rattle.std.specs.declared.ops.ControlFlow.TheVariants.{Continue, Break}
+use Rattle.decision.specs.declared.Refusal.TheVariants.{NoLogSequence}
 use Rattle.decision.specs.Refusal.{check}
 use Rattle.extent.specs.declared.Extent.{Extent}
+use Rattle.extent.specs.Extent.{nowhere}
 use Rattle.vhdx_walk.specs.Entries.{Sector, length_limit}
 use Rattle.vhdx_pieces_plan.specs.declared.Order.{Order}
-use Rattle.vhdx_pieces_plan.specs.declared.Outcome.{Outcome}
-use Rattle.vhdx_pieces_plan.specs.declared.Outcome.TheVariants as outcome
-use Rattle.vhdx_pieces_plan.specs.declared.Step as plan
-use Rattle.vhdx_pieces_plan.specs.declared.Step.TheVariants as plan_step
 use Rattle.vhdx_pieces_plan.specs.Planning as planning
 use Rattle.vhdx_pieces_plan.specs.Planning.{sectors_of, sector_in, OrderFor}
 use Rattle.vhdx_pieces_walk.specs.declared.Bounds.{Bounds}
@@ -25,9 +24,9 @@ use Rattle.vhdx_pieces.specs.declared.Turn.TheVariants.{Read, Grow, Write, Done,
 -- the bytes that are wanted, none where something else is asked for
 abbrev pub wanted_of : Machine → Extent
 wanted_of (Planning p) = planning.wanted_of p
-wanted_of (Growing o) = record { offset = 0; length = 0 }
+wanted_of (Growing o) = nowhere
 wanted_of (Reading d) = sector_in d.order.log (walking.wanted_of d.walker)
-wanted_of (Writing d) = record { offset = 0; length = 0 }
+wanted_of (Writing d) = nowhere
 
 -- the length to which the file is to grow
 abbrev pub growth_of : Machine → ℕ
@@ -56,20 +55,20 @@ bounds_of o = record { log = o.log; limit = o.length }
 -- where k of the planned sectors are not written yet: a log that reads otherwise than it did asks for more or fewer
 abbrev pub walked : Order → ℕ → walk.Step → Turn
 walked o k (walk_step.Read w) = Read (Reading (record { order = o; walker = w; unwritten = k }))
-walked o k (walk_step.Write w) = check (nat_lt 0 k) (Refused 5) (Write (Writing (record { order = o; walker = w; unwritten = k - 1 })))
-walked o k walk_step.Ended = check (nat_eq k 0) (Refused 5) (Done (record { length = o.length; count = o.count }))
-walked o k walk_step.Broken = Refused 5
+walked o k (walk_step.Write w) = check (nat_lt 0 k) (Refused NoLogSequence) (Write (Writing (record { order = o; walker = w; unwritten = k - 1 })))
+walked o k walk_step.Ended = check (nat_eq k 0) (Refused NoLogSequence) (Done (record { length = o.length; count = o.count }))
+walked o k walk_step.Broken = Refused NoLogSequence
 
 unfoldable pub walk_from : Order → Turn
 walk_from o = walked o o.count (walking.started (record { at = o.start; len = sectors_of o.log }) o.left)
 
-abbrev pub ordered : ℕ → Outcome → Turn
-ordered n (outcome.Refused c) = Refused c
-ordered n (outcome.Apply o) = cond (nat_lt n o.length) (Grow (Growing o)) (walk_from o)
+abbrev pub ordered : ℕ → planning.Outcome → Turn
+ordered n (Err r) = Refused r
+ordered n (Ok o) = cond (nat_lt n o.length) (Grow (Growing o)) (walk_from o)
 
-abbrev pub planned : ℕ → plan.Step → Turn
-planned n (plan_step.Read p) = Read (Planning p)
-planned n (plan_step.Ended o) = ordered n o
+abbrev pub planned : ℕ → planning.Step → Turn
+planned n (Continue p) = Read (Planning p)
+planned n (Break o) = ordered n o
 
 abbrev pub started : ℕ → ℕ → Turn
 started n capacity = planned n (planning.started n capacity)
@@ -96,7 +95,7 @@ Kept (Read m) = Sane m
 Kept (Grow m) = Sane m
 Kept (Write m) = Sane m
 Kept (Done w) = Unit {0}
-Kept (Refused c) = Unit {0}
+Kept (Refused r) = Unit {0}
 
 -- ---- how many requests it still makes, at most
 
@@ -105,7 +104,7 @@ abbrev pub work_most : ℕ
 work_most = 1048576 * 4294967296 * (length_limit + 3)
 
 abbrev pub left_in : Machine → ℕ
-left_in (Planning p) = planning.left_of (plan_step.Read p) + suc work_most
+left_in (Planning p) = planning.left_of (Continue p) + suc work_most
 left_in (Growing o) = suc work_most
 left_in (Reading d) = walking.left_of (bounds_of d.order) (walk_step.Read d.walker)
 left_in (Writing d) = walking.left_of (bounds_of d.order) (walk_step.Write d.walker)
@@ -115,7 +114,7 @@ left_of (Read m) = left_in m
 left_of (Grow m) = left_in m
 left_of (Write m) = left_in m
 left_of (Done w) = 0
-left_of (Refused c) = 0
+left_of (Refused r) = 0
 
 -- whatever is fed, it may be fed again, and less is left
 abbrev pub MachineAdvances : Type 0

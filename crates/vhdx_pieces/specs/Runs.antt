@@ -1,6 +1,8 @@
 -- Runs of the machine, and the theorem: fed one file faithfully it asks for what the whole-buffer form does.
 -- Assumes nothing.
 use Rattle.std.specs.Prelude.{cond, List, [], ◌∷◌, ◌++◌, map, ℕ, ◌+◌, ◌≤◌, nat_lt, length, take, replicate}
+use Rattle.decision.specs.declared.Refusal.{Refusal}
+use Rattle.decision.specs.Refusal.{number}
 use Rattle.extent.specs.Extent.{part}
 use Rattle.field.specs.Fields.{Bytes}
 use Rattle.vhdx_walk.specs.Entries.{Sector}
@@ -17,7 +19,7 @@ pub data Request : Type 0 where
   grow : ℕ → Request
   write : Sector → Request
 
--- how it ends
+-- how it ends: with document 01's number, or the final length and how many sectors were written
 pub data Result : Type 0 where
   refusal : ℕ → Result
   finished : ℕ → ℕ → Result
@@ -26,7 +28,7 @@ pub data Result : Type 0 where
 -- 64 KiB
 pub data Ends (f : List ℕ) : List ℕ → Turn → List Request → Result → Type 0 where
   done : {p : List ℕ} {w : Finish} → Ends f p (Done w) [] (finished w.length w.count)
-  refuses : {p : List ℕ} {c : ℕ} → Ends f p (Refused c) [] (refusal c)
+  refuses : {p : List ℕ} {r : Refusal} → Ends f p (Refused r) [] (refusal (number r))
   reads : {p : List ℕ} {m : Machine} {rs : List Request} {x : Result} → (wanted_of m).offset + (wanted_of m).length ≤ length f → (wanted_of m).length ≤ 65536
       → Ends f (part f (wanted_of m)) (step_of m (part f (wanted_of m))) rs x → Ends f p (Read m) rs x
   grows : {p : List ℕ} {m : Machine} {rs : List Request} {x : Result} → ((p₂ : List ℕ) → Ends f p₂ (step_of m p₂) rs x) → Ends f p (Grow m) (grow (growth_of m) ∷ rs) x

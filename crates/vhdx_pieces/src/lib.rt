@@ -8,9 +8,11 @@ ghost use Rattle.vhdx_pieces_walk.specs.declared.Step.TheVariants.{Write};
 ghost use Rattle.vhdx_pieces_walk.specs.Walking.{Onward as WalkOnward};
 ghost use Rattle.vhdx_pieces.specs.Machines.{Sane, Kept, bounds_of, wanted_of, growth_of, written_of, is_data_of, started, planned, ordered, walked, walk_from, step_of};
 
+use decision::Refusal;
 use extent::Extent;
+use std::ops::ControlFlow;
 use vhdx_entry::ring::RingPos;
-use vhdx_pieces_plan::{Order, Outcome, Planner};
+use vhdx_pieces_plan::{Order, Planner};
 use vhdx_pieces_walk::{Bounds, Walker};
 
 // An order that is being done, with the number of its sectors that are not written yet.
@@ -46,8 +48,7 @@ pub enum Turn {
     // a sector is to be written
     Write(Machine),
     Done(Finish),
-    // document 01's number
-    Refused(u64),
+    Refused(Refusal),
 }
 
 // Of a file of this length, in this capacity.
@@ -64,14 +65,10 @@ pub fn wanted(m: Machine) -> Extent
 {
     match m {
         Machine::Planning(p) => vhdx_pieces_plan::wanted(p),
-        Machine::Growing(_) => extent::nowhere(),
         Machine::Reading(d) => {
-            let o = d.order;
-            let w = d.walker;
-            let log = o.log;
-            vhdx_pieces_plan::sector_at(log, vhdx_pieces_walk::wanted(w))
+            vhdx_pieces_plan::sector_at(d.order.log, vhdx_pieces_walk::wanted(d.walker))
         }
-        Machine::Writing(_) => extent::nowhere(),
+        Machine::Growing(_) | Machine::Writing(_) => extent::nowhere(),
     }
 }
 
@@ -81,9 +78,7 @@ pub fn growth(m: Machine) -> u64
 {
     match m {
         Machine::Growing(o) => o.length,
-        Machine::Planning(_) => 0,
-        Machine::Reading(_) => 0,
-        Machine::Writing(_) => 0,
+        _ => 0,
     }
 }
 
@@ -92,13 +87,8 @@ pub fn write_offset(m: Machine) -> u64
     ensures { (s : List ℕ) → result ≡ (written_of m s).offset }
 {
     match m {
-        Machine::Writing(d) => {
-            let w = d.walker;
-            vhdx_pieces_sector::offset(w)
-        }
-        Machine::Planning(_) => 0,
-        Machine::Growing(_) => 0,
-        Machine::Reading(_) => 0,
+        Machine::Writing(d) => vhdx_pieces_sector::offset(d.walker),
+        _ => 0,
     }
 }
 
@@ -107,65 +97,39 @@ pub fn is_data(m: Machine) -> bool
     ensures { result ≡ is_data_of m }
 {
     match m {
-        Machine::Writing(d) => {
-            let w = d.walker;
-            vhdx_pieces_sector::is_data(w)
-        }
-        Machine::Planning(_) => false,
-        Machine::Growing(_) => false,
-        Machine::Reading(_) => false,
+        Machine::Writing(d) => vhdx_pieces_sector::is_data(d.walker),
+        _ => false,
     }
 }
 
 // Puts that sector's bytes in place of those that were read last.
-pub fn fill(m: Machine, sector: &mut [u8])
-    requires { length_of sector.old ≡ 4096 }
+pub fn fill(m: Machine, sector: &mut [u8; 4096])
     ensures { sector.new ≡ (written_of m sector.old).bytes }
 {
-    match m {
-        Machine::Writing(d) => {
-            let w = d.walker;
-            vhdx_pieces_sector::fill(w, sector);
-        }
-        Machine::Planning(_) => {}
-        Machine::Growing(_) => {}
-        Machine::Reading(_) => {}
+    if let Machine::Writing(d) = m {
+        vhdx_pieces_sector::fill(d.walker, sector);
     }
 }
 
 // Handed in, after what it asked for; the piece counts after a read only.
+#[tactic(auto, unfolding(crate::specs::Machines::step_of))]
 pub fn next(m: Machine, piece: &[u8]) -> Turn
     requires { Sane m × (length_of piece.now ≡ (wanted_of m).length) }
     ensures { (result ≡ step_of m piece.now) × Kept result }
 {
     match m {
-        Machine::Planning(p) => {
-            let context = p.context;
-            plan_turn(context.length, vhdx_pieces_plan::next(p, piece))
-        }
+        Machine::Planning(p) => plan_turn(p.context.length, vhdx_pieces_plan::next(p, piece)),
         Machine::Growing(o) => walk_from(o),
         Machine::Reading(d) => {
             let o = d.order;
-            let w = d.walker;
-            let log = o.log;
-            walk_turn(
-                o,
-                d.unwritten,
-                vhdx_pieces_walk::next(
-                    w,
-                    Bounds {
-                        log,
-                        limit: o.length,
-                    },
-                    piece,
-                ),
-            )
+            let bounds = Bounds {
+                log: o.log,
+                limit: o.length,
+            };
+            let step = vhdx_pieces_walk::next(d.walker, bounds, field::array_at(piece, 0));
+            walk_turn(o, d.unwritten, step)
         }
-        Machine::Writing(d) => {
-            let o = d.order;
-            let w = d.walker;
-            walk_turn(o, d.unwritten, vhdx_pieces_walk::wrote(w))
-        }
+        Machine::Writing(d) => walk_turn(d.order, d.unwritten, vhdx_pieces_walk::wrote(d.walker)),
     }
 }
 
@@ -174,19 +138,19 @@ fn plan_turn(length: u64, step: vhdx_pieces_plan::Step) -> Turn
     ensures { (result ≡ planned length step) × Kept result }
 {
     match step {
-        vhdx_pieces_plan::Step::Read(p) => Turn::Read(Machine::Planning(p)),
-        vhdx_pieces_plan::Step::Ended(outcome) => order_turn(length, outcome),
+        ControlFlow::Continue(p) => Turn::Read(Machine::Planning(p)),
+        ControlFlow::Break(outcome) => order_turn(length, outcome),
     }
 }
 
 // Growth comes first, only where the final length is greater.
-fn order_turn(length: u64, outcome: Outcome) -> Turn
+fn order_turn(length: u64, outcome: Result<Order, Refusal>) -> Turn
     requires { Ordered length outcome }
     ensures { (result ≡ ordered length outcome) × Kept result }
 {
     match outcome {
-        Outcome::Refused(number) => Turn::Refused(number),
-        Outcome::Apply(o) => {
+        Err(refusal) => Turn::Refused(refusal),
+        Ok(o) => {
             if length < o.length {
                 Turn::Grow(Machine::Growing(o))
             } else {
@@ -196,23 +160,16 @@ fn order_turn(length: u64, outcome: Outcome) -> Turn
     }
 }
 
+#[tactic(auto, unfolding(crate::specs::Machines::walk_from))]
 fn walk_from(o: Order) -> Turn
     requires { OrderFor o.length o }
     ensures { (result ≡ walk_from o) × Kept result }
 {
-    let log = o.log;
-    let n = vhdx_pieces_plan::sectors(log);
-    walk_turn(
-        o,
-        o.count,
-        vhdx_pieces_walk::start(
-            RingPos {
-                at: o.start,
-                len: n,
-            },
-            o.left,
-        ),
-    )
+    let pos = RingPos {
+        at: o.start,
+        len: vhdx_pieces_plan::sectors(o.log),
+    };
+    walk_turn(o, o.count, vhdx_pieces_walk::start(pos, o.left))
 }
 
 // Where so many planned sectors are not written yet. A log that reads otherwise than when it was surveyed asks for more or fewer.
@@ -234,10 +191,10 @@ fn walk_turn(o: Order, unwritten: u64, step: vhdx_pieces_walk::Step) -> Turn
                     count: o.count,
                 })
             } else {
-                Turn::Refused(5)
+                Turn::Refused(Refusal::NoLogSequence)
             }
         }
-        vhdx_pieces_walk::Step::Broken => Turn::Refused(5),
+        vhdx_pieces_walk::Step::Broken => Turn::Refused(Refusal::NoLogSequence),
     }
 }
 
@@ -252,6 +209,6 @@ fn write_turn(o: Order, unwritten: u64, walker: Walker) -> Turn
             unwritten: unwritten - 1,
         }))
     } else {
-        Turn::Refused(5)
+        Turn::Refused(Refusal::NoLogSequence)
     }
 }

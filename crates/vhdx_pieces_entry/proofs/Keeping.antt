@@ -1,25 +1,23 @@
 -- Whatever is fed, a reading stays within the log and its counts stay small.
 -- Assumes nothing.
 use mathlib.Core.Path.{◌≡◌, refl, sym, ap, ap₂, ◌∙◌, subst}
-use mathlib.Core.Bool.{Bool, true, false, cond, ◌&&◌, and-eq-true_iff}
+use mathlib.Core.Bool.{Bool, true, false, cond, ◌&&◌, and-eq-true_iff, and-false}
 use mathlib.Core.List.{List}
 use Prim.Native.Nat.{ℕ, zero, suc, ◌+◌, ◌-◌, ◌*◌, ◌/◌, ◌≤◌, ◌<◌, min}
 use native.Mathlib.Omega.{arith}
 use lib.Bits.{bit_xor}
 use lib.Dec.{eqb, leb, ltb}
-use borrow.Author.Tests.{ltb-true, leb-true}
+use Rattle.std.specs.Prelude.{Option, None, Some}
+use borrow.Author.Tests.{ltb-true, leb-true, le-leb, lt-leb}
 use Rattle.decision.specs.Bounded.{only_if}
 use Rattle.decision.proofs.Laws.{only_if-none, only_if-some}
 use Rattle.field.specs.declared.Guid.{Guid}
 use Rattle.crc32c.specs.Crc.{ones}
-use Rattle.vhdx_entry.specs.declared.body.Tally.{Tally}
-use Rattle.vhdx_entry.specs.declared.body.Tally.TheVariants.{Whole, Broken}
-use Rattle.vhdx_entry.specs.Entry.{signature_rule, guid_rule, tail_rule, number_rule, whole_sectors, tail, descriptor_count, descriptor_sectors, header_rule, data_sector_rule, is_data_descriptor, tally_of}
+use Rattle.vhdx_entry.specs.Entry.{signature_rule, guid_rule, tail_rule, number_rule, whole_sectors, tail, descriptor_count, descriptor_sectors, header_rule, data_sector_rule, is_data_descriptor}
 use Rattle.vhdx_pieces_entry.specs.declared.Reading.{Reading}
-use Rattle.vhdx_pieces_entry.specs.declared.Progress.{Progress}
-use Rattle.vhdx_pieces_entry.specs.declared.Progress.TheVariants.{More, Valid, Empty}
+use Rattle.std.specs.declared.ops.ControlFlow.TheVariants.{Continue, Break}
 use Rattle.vhdx_pieces_entry.specs.Sector.{descriptor_in, passes, data_in}
-use Rattle.vhdx_pieces_entry.specs.Pass.{front, size_of, closed, settled, from_of, here, past, on_front, on_data, further, beginning, first, Sized, Sane, Kept}
+use Rattle.vhdx_pieces_entry.specs.Pass.{Progress, front, size_of, closed, settled, from_of, here, past, on_front, on_data, further, beginning, first, Sized, Sane, Kept}
 use Rattle.vhdx_pieces_entry.proofs.Laws.{chosen}
 
 pub few-data : (s : List ℕ) (from m : ℕ) → data_in s from m ≤ m
@@ -33,7 +31,11 @@ few-data s from (suc m) = go (is_data_descriptor (descriptor_in s from m)) (few-
 
 kept-closed : (n : ℕ) (x : Reading) (size : ℕ) → 0 < size → size ≤ n → x.tail < n → Kept n (closed x size)
 unfolding closed
-kept-closed n x size a b d = chosen (Kept n) (eqb x.sum (bit_xor x.state ones)) _ _ (λ e. (a, b, d)) (λ e. tt)
+kept-closed n x size a b d = go (eqb x.sum (bit_xor x.state ones))
+  where
+    go : (t : Bool) → Kept n (Break (only_if t (record { size = size; number = x.number; tail = x.tail })))
+    go true = (a, b, d)
+    go false = tt
 
 pub kept-settled : (n : ℕ) (x : Reading) → Sized n x → Kept n (settled n x)
 unfolding settled
@@ -96,9 +98,8 @@ kept-first guid n s h =
 
 -- k sectors are read where a further one is wanted
 abbrev pub Read : ℕ → Progress → Type 0
-Read k (More x) = x.read ≡ k
-Read k (Valid e) = Unit {0}
-Read k Empty = Unit {0}
+Read k (Continue x) = x.read ≡ k
+Read k (Break o) = Unit {0}
 
 read-settled : (n : ℕ) (x : Reading) → Read x.read (settled n x)
 unfolding settled closed
@@ -106,7 +107,7 @@ read-settled n x =
     let P = Read x.read in
     chosen P (ltb x.read (front x)) _ _ (λ _. refl)
     (λ _. chosen P (leb (size_of x) n && eqb x.bytes (size_of x * 4096)) _ _
-    (λ _. chosen P (ltb x.read (size_of x)) _ _ (λ _. refl) (λ _. chosen P (eqb x.sum (bit_xor x.state ones)) _ _ (λ _. tt) (λ _. tt)))
+    (λ _. chosen P (ltb x.read (size_of x)) _ _ (λ _. refl) (λ _. tt))
     (λ _. tt))
 
 read-front : (n : ℕ) (x : Reading) (s : List ℕ) → Read (x.read + 1) (on_front n x s)
@@ -136,44 +137,53 @@ fits-here x {from} {m} p q = go (eqb x.read 0) p q
     go true p q = omega arith
     go false p q = omega arith
 
-module _ (x : Reading) (s : List ℕ) {from m : ℕ} (t : Tally) (p : from ≡ from_of x.read) (q : m ≡ here x)
-    (e : tally_of t ≡ only_if (passes x.number s from m) (data_in s from m)) where
+module _ (x : Reading) (s : List ℕ) {from m : ℕ} (t : Option ℕ) (p : from ≡ from_of x.read) (q : m ≡ here x)
+    (e : t ≡ only_if (passes x.number s from m) (data_in s from m)) where
   same : only_if (passes x.number s from m) (data_in s from m) ≡ only_if (passes x.number s (from_of x.read) (here x)) (data_in s (from_of x.read) (here x))
   same = ap₂ (λ (f k : ℕ). only_if (passes x.number s f k) (data_in s f k)) p q
 
-  pub told : {d : ℕ} → t ≡ Whole d → (d ≡ data_in s (from_of x.read) (here x)) × (d ≤ m)
+  pub told : {d : ℕ} → t ≡ Some d → (d ≡ data_in s (from_of x.read) (here x)) × (d ≤ m)
   told {d} h =
-      let is = (only_if-some (passes x.number s from m) (data_in s from m) (sym (ap tally_of h) ∙ e)).1 in
+      let is = (only_if-some (passes x.number s from m) (data_in s from m) (sym h ∙ e)).1 in
       (is ∙ ap₂ (λ (f k : ℕ). data_in s f k) p q, omega (arith, is, few-data s from m))
 
-  pub broken : (n : ℕ) → t ≡ Broken → Empty ≡ on_front n x s
+  pub broken : (n : ℕ) → t ≡ None → Break None ≡ on_front n x s
   unfolding on_front
   broken n h =
-      let no = only_if-none (passes x.number s (from_of x.read) (here x)) _ (sym (ap tally_of h) ∙ e ∙ same) in
-      sym (ap (λ (b : Bool). cond b (settled n (past x (here x) (data_in s (from_of x.read) (here x)) s)) Empty) no)
+      let no = only_if-none (passes x.number s (from_of x.read) (here x)) _ (sym h ∙ e ∙ same) in
+      sym (ap (λ (b : Bool). cond b (settled n (past x (here x) (data_in s (from_of x.read) (here x)) s)) (Break None)) no)
 
-  pub whole : (n : ℕ) {d : ℕ} → t ≡ Whole d → {y : Reading} → y ≡ past x m d s → settled n y ≡ on_front n x s
+  pub whole : (n : ℕ) {d : ℕ} → t ≡ Some d → {y : Reading} → y ≡ past x m d s → settled n y ≡ on_front n x s
   unfolding on_front
   whole n {d} h {y} r =
-      let yes = (only_if-some (passes x.number s (from_of x.read) (here x)) _ (sym (ap tally_of h) ∙ e ∙ same)).0 in
+      let yes = (only_if-some (passes x.number s (from_of x.read) (here x)) _ (sym h ∙ e ∙ same)).0 in
       ap (settled n) (r ∙ ap₂ (λ (k j : ℕ). past x k j s) q (told h).0)
-      ∙ sym (ap (λ (b : Bool). cond b (settled n (past x (here x) (data_in s (from_of x.read) (here x)) s)) Empty) yes)
+      ∙ sym (ap (λ (b : Bool). cond b (settled n (past x (here x) (data_in s (from_of x.read) (here x)) s)) (Break None)) yes)
 
 module _ (guid : Guid) (n : ℕ) (s : List ℕ) {c f : ℕ} {k : Bool} (p : c ≡ descriptor_count s) (q : f ≡ descriptor_sectors c) (r : k ≡ header_rule guid (n * 4096) s) where
   tests : (b : Bool) → (k && leb f n) ≡ b → header_rule guid (n * 4096) s && leb (descriptor_sectors (descriptor_count s)) n ≡ b
   tests b h = sym (ap₂ (λ (x : Bool) (y : ℕ). x && leb y n) r (q ∙ ap descriptor_sectors p)) ∙ h
 
-  pub first_taken : (k && leb f n) ≡ true → {x : Reading} → x ≡ beginning s → on_front n x s ≡ first guid n s
-  unfolding first
-  first_taken h e = ap (λ (x : Reading). on_front n x s) e ∙ sym (ap (λ (b : Bool). cond b (on_front n (beginning s) s) Empty) (tests true h))
+  taken : k ≡ true → f ≤ n → header_rule guid (n * 4096) s && leb (descriptor_sectors (descriptor_count s)) n ≡ true
+  taken h l = tests true (ap (λ (b : Bool). b && leb f n) h ∙ le-leb f n l)
 
-  pub first-left : (k && leb f n) ≡ false → Empty ≡ first guid n s
+  pub first_taken : k ≡ true → f ≤ n → {x : Reading} → x ≡ beginning s → on_front n x s ≡ first guid n s
   unfolding first
-  first-left h = sym (ap (λ (b : Bool). cond b (on_front n (beginning s) s) Empty) (tests false h))
+  first_taken h l e = ap (λ (x : Reading). on_front n x s) e ∙ sym (ap (λ (b : Bool). cond b (on_front n (beginning s) s) (Break None)) (taken h l))
 
-  pub first-sane : n < 33554432 → (k && leb f n) ≡ true → {x : Reading} → x ≡ beginning s → Sane n x
-  first-sane l h e =
-      let both = (and-eq-true_iff (header_rule guid (n * 4096) s) (leb (descriptor_sectors (descriptor_count s)) n)).0 (tests true h) in
+  left : (k && leb f n) ≡ false → Break None ≡ first guid n s
+  unfolding first
+  left h = sym (ap (λ (b : Bool). cond b (on_front n (beginning s) s) (Break None)) (tests false h))
+
+  pub bad-header : k ≡ false → Break None ≡ first guid n s
+  bad-header h = left (ap (λ (b : Bool). b && leb f n) h)
+
+  pub too-long : n < f → Break None ≡ first guid n s
+  too-long l = left (ap (λ (b : Bool). k && b) (lt-leb f n l) ∙ and-false k)
+
+  pub first-sane : n < 33554432 → k ≡ true → f ≤ n → {x : Reading} → x ≡ beginning s → Sane n x
+  first-sane l h m e =
+      let both = (and-eq-true_iff (header_rule guid (n * 4096) s) (leb (descriptor_sectors (descriptor_count s)) n)).0 (taken h m) in
       let fits : descriptor_sectors (descriptor_count s) ≤ n = leb-true _ _ both.1 in
       subst (Sane n) (sym e) (sane-first n s l fits (tail-below guid n s both.0))
 

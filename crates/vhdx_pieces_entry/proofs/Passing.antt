@@ -2,7 +2,7 @@
 use mathlib.Core.Path.{◌≡◌, refl, sym, ap, ◌∙◌, subst}
 use mathlib.Core.Bool.{Bool, true, false, cond, ◌&&◌}
 use mathlib.Core.List.{List}
-use mathlib.Core.Option.{Option, none}
+use Rattle.std.specs.Prelude.{Option, None}
 use Prim.Native.Nat.{ℕ, zero, suc, ◌+◌, ◌-◌, ◌*◌, ◌/◌, ◌≤◌, ◌<◌, min}
 use native.Mathlib.Nat.{add-zero}
 use native.Mathlib.Numerals.{add-one}
@@ -24,9 +24,8 @@ use Rattle.vhdx_entry.specs.Entry.{checksum, entry_length, tail, sequence_number
 use Rattle.vhdx_entry.proofs.Laws.{sector-next, field-of-sector}
 use Rattle.vhdx_pieces_entry.specs.Sector.{passes, data_in}
 use Rattle.vhdx_pieces_entry.specs.declared.Reading.{Reading}
-use Rattle.vhdx_pieces_entry.specs.declared.Progress.{Progress}
-use Rattle.vhdx_pieces_entry.specs.declared.Progress.TheVariants.{More, Valid, Empty}
-use Rattle.vhdx_pieces_entry.specs.Pass.{ended, closed, going, settled, from_of, places_in, state_on, past, on_front, on_data, further, beginning, first, Reads, stop, next, ReadsEntry}
+use Rattle.std.specs.declared.ops.ControlFlow.TheVariants.{Continue, Break}
+use Rattle.vhdx_pieces_entry.specs.Pass.{Progress, closed, going, settled, from_of, places_in, state_on, past, on_front, on_data, further, beginning, first, Reads, stop, next, ReadsEntry}
 use Rattle.vhdx_pieces_entry.proofs.Split.{rules-split, data-split}
 
 left-no : (a b : Bool) → a ≡ false → a && b ≡ false
@@ -202,8 +201,8 @@ module _ (guid : Guid) (n : ℕ) (r : List ℕ) (len : length r ≡ n * 4096) (h
   abbrev answer : Option Entry
   answer = only_if (valid_entry guid r) (contents r)
 
-  refuted : valid_entry guid r ≡ false → Reads n r Empty answer
-  refuted e = subst (λ (b : Bool). Reads n r Empty (only_if b (contents r))) (sym e) (stop {o = none})
+  refuted : valid_entry guid r ≡ false → Reads n r (Break None) answer
+  refuted e = subst (λ (b : Bool). Reads n r (Break None) (only_if b (contents r))) (sym e) (stop {o = None})
 
   -- the clauses behind the header's
   no-fit : fits_rule r ≡ false → valid_entry guid r ≡ false
@@ -246,15 +245,11 @@ module _ (guid : Guid) (n : ℕ) (r : List ℕ) (len : length r ≡ n * 4096) (h
 
     data-end : (k : ℕ) → size r ≡ k → data_sectors_rule r ≡ true → Reads n r (closed (done r k) (size r)) answer
     unfolding closed
-    data-end k e h = subst (λ (x : Progress). Reads n r x answer) (shut (valid_entry guid r) (contents r) (is-valid h ∙ summed k e (omega arith))) (stop {o = answer})
-      where
-        shut : (b : Bool) (e : Entry) {c : Bool} → b ≡ c → ended (only_if b e) ≡ cond c (Valid e) Empty
-        shut true e p = rw (← p)
-        shut false e p = rw (← p)
+    data-end k e h = subst (λ (b : Bool). Reads n r (Break (only_if b (contents r))) answer) (is-valid h ∙ summed k e (omega arith)) (stop {o = answer})
 
     turn-data : (k : ℕ) → descriptor_sectors (descriptor_count r) ≤ k
-        → Reads n r (cond (data_sector_rule (sequence_number_of r) (sector_at r k)) (settled n (past (done r k) 0 0 (sector_at r k))) Empty) answer
-        → Reads n r (More (done r k)) answer
+        → Reads n r (cond (data_sector_rule (sequence_number_of r) (sector_at r k)) (settled n (past (done r k) 0 0 (sector_at r k))) (Break None)) answer
+        → Reads n r (Continue (done r k)) answer
     unfolding further on_data
     turn-data k f h = next {x = done r k} {o = answer} (rw (le-ltb k (descriptor_sectors (descriptor_count r)) f) h)
 
@@ -267,7 +262,7 @@ module _ (guid : Guid) (n : ℕ) (r : List ℕ) (len : length r ≡ n * 4096) (h
     data-phase (suc d) k e f h =
         rw (lt-ltb k (size r) (omega arith))
         (turn-data k f
-        (by (λ b. Reads n r (cond b (settled n (past (done r k) 0 0 (sector_at r k))) Empty) answer) (data_sector_rule (sequence_number_of r) (sector_at r k))
+        (by (λ b. Reads n r (cond b (settled n (past (done r k) 0 0 (sector_at r k))) (Break None)) answer) (data_sector_rule (sequence_number_of r) (sector_at r k))
         (λ t. subst (λ (x : Reading). Reads n r (settled n x) answer) (sym (done_next r k (omega arith)))
         (subst (λ (p : Progress). Reads n r p answer) (sym (settled_on (k + 1) (omega arith)))
         (data-phase d (k + 1) (omega arith) (omega arith)
@@ -283,7 +278,7 @@ module _ (guid : Guid) (n : ℕ) (r : List ℕ) (len : length r ≡ n * 4096) (h
   unfolding settled every
   front-end k e kept =
       rw (le-ltb k (descriptor_sectors (descriptor_count r)) (omega arith))
-      (by (λ b. Reads n r (cond b (going (done r k)) Empty) answer) (leb (size r) n && eqb (entry_length r) (size r * 4096))
+      (by (λ b. Reads n r (cond b (going (done r k)) (Break None)) answer) (leb (size r) n && eqb (entry_length r) (size r * 4096))
       (λ t. data-phase
       (leb-true (size r) n (fst (leb (size r) n) (eqb (entry_length r) (size r * 4096)) t))
       (eqb-true (entry_length r) (size r * 4096) (snd (leb (size r) n) (eqb (entry_length r) (size r * 4096)) t))
@@ -309,7 +304,7 @@ module _ (guid : Guid) (n : ℕ) (r : List ℕ) (len : length r ≡ n * 4096) (h
       let all : every (seen_at c (k + 1)) rule ≡ passes (sequence_number_of r) (sector_at r k) (from_of k) m =
       ap (λ (x : ℕ). every x rule) (sym (seen_next c k)) ∙ rules-split r k (seen_at c k) (from_of k) starts (sequence_number_of r) m (fits_in c k)
       ∙ ap (λ (b : Bool). b && passes (sequence_number_of r) (sector_at r k) (from_of k) m) kept in
-      by (λ b. Reads n r (cond b (settled n (past (at r k) m (data_in (sector_at r k) (from_of k) m) (sector_at r k))) Empty) answer)
+      by (λ b. Reads n r (cond b (settled n (past (at r k) m (data_in (sector_at r k) (from_of k) m) (sector_at r k))) (Break None)) answer)
       (passes (sequence_number_of r) (sector_at r k) (from_of k) m)
       (λ t. subst (λ (x : Reading). Reads n r (settled n x) answer)
       (sym (past_is r k m (data_in (sector_at r k) (from_of k) m) (omega arith) (seen_next c k)
@@ -379,7 +374,7 @@ pub reads-entry : ReadsEntry
 unfolding first every
 reads-entry guid n r some-sectors len =
     let c = descriptor_count r in
-    by (λ b. Reads n r (cond b (on_front n (beginning (sector_at r 0)) (sector_at r 0)) Empty) (only_if (valid_entry guid r) (contents r)))
+    by (λ b. Reads n r (cond b (on_front n (beginning (sector_at r 0)) (sector_at r 0)) (Break None)) (only_if (valid_entry guid r) (contents r)))
     (header_rule guid (n * 4096) (sector_at r 0) && leb (descriptor_sectors (descriptor_count (sector_at r 0))) n)
     (λ t.
     let u = sym (tests-are guid n r len) ∙ t in
@@ -389,4 +384,4 @@ reads-entry guid n r some-sectors len =
     (turn-front guid n r len head 0 (omega arith) fits
     (ap (λ (m : ℕ). every m (λ i. descriptor_rule (sequence_number_of r) (descriptor r i))) {x = seen_at c 0} {y = 0} (omega arith))
     (front-phase guid n r len head (descriptor_sectors c - 1) 1 (omega arith) fits)))
-    (λ t. subst (λ (b : Bool). Reads n r Empty (only_if b (contents r))) (sym (refused-at-once guid n r len (sym (tests-are guid n r len) ∙ t))) (stop {o = none}))
+    (λ t. subst (λ (b : Bool). Reads n r (Break None) (only_if b (contents r))) (sym (refused-at-once guid n r len (sym (tests-are guid n r len) ∙ t))) (stop {o = None}))

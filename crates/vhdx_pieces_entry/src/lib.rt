@@ -5,10 +5,10 @@
 
 pub mod sector;
 
-ghost use Rattle.std.specs.Prelude.{◌≡◌, ◌+◌, ◌≤◌, ◌<◌, min, length};
+ghost use Rattle.std.specs.Prelude.{◌≡◌, ◌+◌, ◌<◌, min};
 ghost use Rattle.vhdx_pieces_entry.specs.Pass.{Sane, Kept, Sized, beginning, past as past_of, state_on, from_of, places_in, closed as closed_of, settled as settled_on_all, on_front, on_data, further as further_on, first as first_of};
 
-use vhdx_entry::body::Tally;
+use std::ops::ControlFlow;
 use vhdx_entry::{Entry, body, descriptor, header};
 
 // What the header says: the entry's number, its Tail in sectors, how many descriptors it has, its length in bytes, its checksum.
@@ -26,31 +26,24 @@ pub struct Reading {
     pub state: u32,
 }
 
-// A further sector is wanted, or what starts at the first one: a valid entry, or none.
-#[derive(Clone, Copy)]
-pub enum Progress {
-    More(Reading),
-    Valid(Entry),
-    Empty,
-}
+// A further sector is wanted, or what starts at the first one is known: a valid entry, or none.
+pub type Progress = ControlFlow<Option<Entry>, Reading>;
 
 // The sector that an entry of a log of n sectors may start with, in an image whose log has this identifier.
-pub fn first(s: &[u8], guid: field::Guid, n: usize) -> Progress
-    requires { (length s.now ≡ 4096) × (n < 33554432) }
+pub fn first(s: &[u8; 4096], guid: field::Guid, n: usize) -> Progress
+    requires { n < 33554432 }
     ensures value { result ≡ first_of guid n s.now }
     ensures kept { Kept n result }
 {
-    let count = header::descriptor_count(s);
-    let fits = descriptor::sectors(count) <= n;
-    if header::keeps_rules(s, guid, n * 4096) & fits {
+    let fits = descriptor::sectors(header::descriptor_count(s)) <= n;
+    if header::keeps_rules(s, guid, n * 4096) && fits {
         on_front(begin(s), s, n)
     } else {
-        Progress::Empty
+        ControlFlow::Break(None)
     }
 }
 
-fn begin(s: &[u8]) -> Reading
-    requires { length s.now ≡ 4096 }
+fn begin(s: &[u8; 4096]) -> Reading
     ensures { (result ≡ beginning s.now) × (result.count < 4294967296) }
 {
     Reading {
@@ -67,8 +60,8 @@ fn begin(s: &[u8]) -> Reading
 }
 
 // The next sector.
-pub fn further(x: Reading, s: &[u8], n: usize) -> Progress
-    requires { (length s.now ≡ 4096) × (n < 33554432) × Sane n x }
+pub fn further(x: Reading, s: &[u8; 4096], n: usize) -> Progress
+    requires { (n < 33554432) × Sane n x }
     ensures value { result ≡ further_on n x s.now }
     ensures kept { Kept n result }
 {
@@ -80,26 +73,26 @@ pub fn further(x: Reading, s: &[u8], n: usize) -> Progress
 }
 
 // A sector with descriptors.
-fn on_front(x: Reading, s: &[u8], n: usize) -> Progress
-    requires { (length s.now ≡ 4096) × (n < 33554432) × Sane n x }
+fn on_front(x: Reading, s: &[u8; 4096], n: usize) -> Progress
+    requires { (n < 33554432) × Sane n x }
     ensures { result ≡ on_front n x s.now }
 {
     let m = here(x.count - x.seen, x.read);
     match sector::descriptors(s, from(x.read), m, x.number) {
-        Tally::Broken => Progress::Empty,
-        Tally::Whole(d) => settled(past(x, m, d, s), n),
+        Some(d) => settled(past(x, m, d, s), n),
+        None => ControlFlow::Break(None),
     }
 }
 
 // A data sector.
-fn on_data(x: Reading, s: &[u8], n: usize) -> Progress
-    requires { (length s.now ≡ 4096) × (n < 33554432) × Sane n x }
+fn on_data(x: Reading, s: &[u8; 4096], n: usize) -> Progress
+    requires { (n < 33554432) × Sane n x }
     ensures { result ≡ on_data n x s.now }
 {
     if body::is_data_sector(s, x.number) {
         settled(past(x, 0, 0, s), n)
     } else {
-        Progress::Empty
+        ControlFlow::Break(None)
     }
 }
 
@@ -114,38 +107,24 @@ pub fn from(k: usize) -> usize
 pub fn here(left: usize, k: usize) -> usize
     ensures { result ≡ min left (places_in k) }
 {
-    if k == 0 {
-        least(left, 126)
-    } else {
-        least(left, 128)
-    }
-}
-
-pub fn least(a: usize, b: usize) -> usize
-    ensures { result ≡ min a b }
-{
-    if a < b { a } else { b }
+    left.min(if k == 0 { 126 } else { 128 })
 }
 
 // Past a sector with m descriptors, d of them data descriptors.
-fn past(x: Reading, m: usize, d: usize, s: &[u8]) -> Reading
+fn past(x: Reading, m: usize, d: usize, s: &[u8; 4096]) -> Reading
     requires { (x.seen + m < 4294967296) × (x.found + d < 4294967296) × (x.read < 4294967296) }
     ensures { result ≡ past_of x m d s.now }
 {
     Reading {
-        number: x.number,
-        tail: x.tail,
-        count: x.count,
-        bytes: x.bytes,
-        sum: x.sum,
         seen: x.seen + m,
         found: x.found + d,
         read: x.read + 1,
         state: state_on(x.read, x.state, s),
+        ..x
     }
 }
 
-fn state_on(k: usize, state: u32, s: &[u8]) -> u32
+fn state_on(k: usize, state: u32, s: &[u8; 4096]) -> u32
     ensures { result ≡ state_on k state s.now }
 {
     if k == 0 {
@@ -156,37 +135,36 @@ fn state_on(k: usize, state: u32, s: &[u8]) -> u32
 }
 
 // What a reading comes to: a sector with descriptors is left, or its length is judged.
+#[tactic(auto, unfolding(crate::specs::Pass::settled))]
 fn settled(x: Reading, n: usize) -> Progress
     requires { Sized n x }
     ensures { result ≡ settled_on_all n x }
 {
     let front = descriptor::sectors(x.count);
     if x.read < front {
-        return Progress::More(x);
+        return ControlFlow::Continue(x);
     }
     let size = front + x.found;
-    if (size <= n) & (x.bytes == size * 4096) {
+    if size <= n && x.bytes == size * 4096 {
         if x.read < size {
-            Progress::More(x)
+            ControlFlow::Continue(x)
         } else {
             closed(x, size)
         }
     } else {
-        Progress::Empty
+        ControlFlow::Break(None)
     }
 }
 
 // All its sectors were read: the checksum decides.
+#[tactic(auto, unfolding(crate::specs::Pass::closed))]
 fn closed(x: Reading, size: usize) -> Progress
     ensures { result ≡ closed_of x size }
 {
-    if x.sum == crc32c::finish(x.state) {
-        Progress::Valid(Entry {
-            size,
-            number: x.number,
-            tail: x.tail,
-        })
-    } else {
-        Progress::Empty
-    }
+    let sums_agree = x.sum == crc32c::finish(x.state);
+    ControlFlow::Break(sums_agree.then_some(Entry {
+        size,
+        number: x.number,
+        tail: x.tail,
+    }))
 }

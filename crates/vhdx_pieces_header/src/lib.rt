@@ -4,11 +4,18 @@
 ghost use Rattle.std.specs.Prelude.{◌≡◌, ◌+◌, ◌≤◌, length as length_of};
 ghost use Rattle.vhdx_pieces_header.specs.Finding.{offset_of, size_of, started, identified as identified_by, step_of, candidate_of, judged as judged_of, chosen as chosen_of};
 
+use decision::Refusal;
+use std::ops::ControlFlow;
 use vhdx_header::choice::Slot;
-use vhdx_header::{Answer, Header, choice, fields};
+use vhdx_header::{Header, choice, fields};
+
+// Where the two headers stand in the file.
+const FIRST: u64 = 65536;
+
+const SECOND: u64 = 131072;
 
 // A header that was read: whether it is valid, whether its fields keep the rules that they alone decide, and what it holds.
-#[derive(Clone, Copy)]
+#[derive(Clone, Copy, Debug, PartialEq, Eq, Drop)]
 pub struct Candidate {
     pub valid: bool,
     pub rules: bool,
@@ -16,27 +23,24 @@ pub struct Candidate {
 }
 
 // What is wanted next. Of the first header is kept what it says.
-#[derive(Clone, Copy)]
+#[derive(Clone, Copy, Debug, PartialEq, Eq, Drop)]
 pub enum Stage {
     Identifier,
     First,
     Second(Candidate),
 }
 
-#[derive(Clone, Copy)]
-pub enum Step {
-    Read(Stage),
-    Ended(Answer),
-}
+// More bytes are wanted, or it has ended with the current header or why there is none.
+pub type Step = ControlFlow<Result<Header, Refusal>, Stage>;
 
 // Of a file of this length, in this capacity.
 pub fn start(length: u64, capacity: u64) -> Step
     ensures { result ≡ started length capacity }
 {
-    if (length <= capacity) & (extent::MIB <= length) {
-        Step::Read(Stage::Identifier)
+    if length <= capacity && extent::MIB <= length {
+        ControlFlow::Continue(Stage::Identifier)
     } else {
-        Step::Ended(Answer::Refused(1))
+        ControlFlow::Break(Err(Refusal::ImageLength))
     }
 }
 
@@ -46,8 +50,8 @@ pub fn offset(stage: Stage) -> u64
 {
     match stage {
         Stage::Identifier => 0,
-        Stage::First => 65536,
-        Stage::Second(_) => 131072,
+        Stage::First => FIRST,
+        Stage::Second(_) => SECOND,
     }
 }
 
@@ -69,9 +73,13 @@ pub fn next(stage: Stage, length: u64, piece: &[u8]) -> Step
 {
     match stage {
         Stage::Identifier => identified(piece),
-        Stage::First => Step::Read(Stage::Second(read_one(65536, piece))),
+        Stage::First => {
+            let first = read_one(FIRST, field::array_at(piece, 0));
+            ControlFlow::Continue(Stage::Second(first))
+        }
         Stage::Second(first) => {
-            Step::Ended(vhdx_header::within_image(length, chosen(first, read_one(131072, piece))))
+            let second = read_one(SECOND, field::array_at(piece, 0));
+            ControlFlow::Break(vhdx_header::within_image(length, chosen(first, second)))
         }
     }
 }
@@ -81,49 +89,44 @@ fn identified(piece: &[u8]) -> Step
     ensures { result ≡ identified_by piece.now }
 {
     if field::bytes_are(piece, 0, b"vhdxfile") {
-        Step::Read(Stage::First)
+        ControlFlow::Continue(Stage::First)
     } else {
-        Step::Ended(Answer::Refused(2))
+        ControlFlow::Break(Err(Refusal::NotVhdx))
     }
 }
 
-fn read_one(at: u64, h: &[u8]) -> Candidate
-    requires { length_of h.now ≡ 4096 }
+fn read_one(at: u64, h: &[u8; 4096]) -> Candidate
     ensures { result ≡ candidate_of at h.now }
 {
-    let header = fields::contents(at, h);
     Candidate {
         valid: fields::is_valid(h),
         rules: fields::keep_rules(h),
-        header,
+        header: fields::contents(at, h),
     }
 }
 
 // What the current one of the two says.
-fn chosen(first: Candidate, second: Candidate) -> Answer
+fn chosen(first: Candidate, second: Candidate) -> Result<Header, Refusal>
     ensures { result ≡ chosen_of first second }
 {
-    let a = first.header;
-    let b = second.header;
-    match choice::chosen_slot(
+    let slot = choice::chosen_slot(
         first.valid,
         second.valid,
-        a.sequence_number,
-        b.sequence_number,
-    ) {
-        Slot::Neither => Answer::Refused(3),
+        first.header.sequence_number,
+        second.header.sequence_number,
+    );
+    match slot.ok_or(Refusal::NoCurrentHeader)? {
         Slot::First => judged(first),
         Slot::Second => judged(second),
     }
 }
 
-fn judged(c: Candidate) -> Answer
+fn judged(c: Candidate) -> Result<Header, Refusal>
     ensures { result ≡ judged_of c }
 {
-    let header = c.header;
     if c.rules {
-        Answer::Current(header)
+        Ok(c.header)
     } else {
-        Answer::Refused(4)
+        Err(Refusal::HeaderField)
     }
 }

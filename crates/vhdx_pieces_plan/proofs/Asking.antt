@@ -6,35 +6,31 @@ use Prim.Native.Nat.{ℕ, ◌+◌, ◌*◌, ◌/◌, ◌≤◌, ◌<◌, max}
 use native.Mathlib.Nat.{mod-lt}
 use native.Mathlib.Omega.{arith}
 use lib.Dec.{eqb, leb, ltb, lit≤}
+use Rattle.std.specs.Prelude.{Option, None, Some, Result, Ok, Err}
+use Rattle.std.specs.declared.ops.ControlFlow.TheVariants.{Continue, Break}
+use Rattle.decision.specs.declared.Refusal.{Refusal}
+use Rattle.decision.specs.Refusal.{number}
 use Rattle.extent.specs.Extent.{mib, inside}
 use Rattle.field.specs.Fields.{starts}
 use Rattle.vhdx_header.specs.declared.choice.Slot.{Slot}
 use Rattle.vhdx_header.specs.declared.choice.Slot.TheVariants as slot
-use Rattle.vhdx_header.specs.declared.Answer.{Answer}
-use Rattle.vhdx_header.specs.declared.Answer.TheVariants as answer
+use Rattle.vhdx_header.specs.declared.Header.{Header}
 use Rattle.vhdx_header.specs.Header.{inside_rule}
 use Rattle.vhdx_header.specs.Current.{vhdxfile, slot2, chosen_slot, within_image}
 use Rattle.vhdx_sequence.specs.declared.Sequence.{Sequence}
-use Rattle.vhdx_sequence.specs.declared.Found.{Found}
-use Rattle.vhdx_sequence.specs.declared.Found.TheVariants as found
 use Rattle.vhdx_sequence.specs.Scan.{fresh}
 use Rattle.vhdx_walk.specs.Entries.{length_limit}
 use Rattle.vhdx_pieces_header.specs.declared.Candidate.{Candidate}
 use Rattle.vhdx_pieces_header.specs.declared.Stage.{Stage}
 use Rattle.vhdx_pieces_header.specs.declared.Stage.TheVariants as stage
-use Rattle.vhdx_pieces_header.specs.declared.Step as header
 use Rattle.vhdx_pieces_header.specs.Finding as finding
 use Rattle.vhdx_pieces_entry.proofs.Laws.{chosen}
 use Rattle.vhdx_pieces_scan.specs.declared.Stage as scan
 use Rattle.vhdx_pieces_scan.specs.declared.Stage.TheVariants as scan_stage
 use Rattle.vhdx_pieces_scan.specs.declared.Scanner.{Scanner}
-use Rattle.vhdx_pieces_scan.specs.declared.Step as scanning
-use Rattle.vhdx_pieces_scan.specs.declared.Step.TheVariants as scan_step
 use Rattle.vhdx_pieces_scan.specs.Scanning as scans
 use Rattle.vhdx_pieces_scan.proofs.Turns.{on-ring}
 use Rattle.vhdx_pieces_survey.specs.declared.Report.{Report}
-use Rattle.vhdx_pieces_survey.specs.declared.Step as survey
-use Rattle.vhdx_pieces_survey.specs.declared.Step.TheVariants as survey_step
 use Rattle.vhdx_pieces_survey.specs.Touring as touring
 use Rattle.vhdx_pieces_plan.specs.declared.Context.{Context}
 use Rattle.vhdx_pieces_plan.specs.declared.Phase.{Phase}
@@ -88,21 +84,21 @@ module _ (c : Context) where
       (λ _. checked NumberedIn (not r.found.lies) _ _ (lit≤ tt, lit≤ tt)
       (λ _. checked NumberedIn (leb m c.capacity && leb m length_limit) _ _ (lit≤ tt, lit≤ tt) (λ _. tt)))
 
-  toured-so : (q : Sequence) (r : survey.Step) → Numbered (toured c q r)
-  toured-so q (survey_step.Sector t) = tt
-  toured-so q (survey_step.Ended r) = judged-so q r
-  toured-so q survey_step.Broken = (lit≤ tt, lit≤ tt)
+  toured-so : (q : Sequence) (r : touring.Step) → Numbered (toured c q r)
+  toured-so q (Continue t) = tt
+  toured-so q (Break (Some r)) = judged-so q r
+  toured-so q (Break None) = (lit≤ tt, lit≤ tt)
 
-  sought-so : (q : Found) → Numbered (sought c q)
-  sought-so found.Nothing = (lit≤ tt, lit≤ tt)
-  sought-so (found.At q) =
+  sought-so : (q : Option Sequence) → Numbered (sought c q)
+  sought-so None = (lit≤ tt, lit≤ tt)
+  sought-so (Some q) =
       let n = sectors_of c.log in
       checked Numbered (ltb q.start n && ltb q.more n) _ _ (lit≤ tt, lit≤ tt)
       (λ _. toured-so q (touring.started (record { at = q.start; len = n }) q.more))
 
-  scanned-so : (r : scanning.Step) → Numbered (scanned c r)
-  scanned-so (scan_step.Sector s) = tt
-  scanned-so (scan_step.Ended q) = sought-so q
+  scanned-so : (r : scans.Step) → Numbered (scanned c r)
+  scanned-so (Continue s) = tt
+  scanned-so (Break q) = sought-so q
 
   log-so : Numbered (with_log c)
   log-so =
@@ -111,29 +107,29 @@ module _ (c : Context) where
       (λ _. scanned-so (scans.resumed (sectors_of c.log) 0 fresh))
 
 -- a header's answer
-abbrev Told : Answer → Type 0
-Told (answer.Refused c) = (1 ≤ c) × (c ≤ 8)
-Told (answer.Current h) = Unit {0}
+abbrev Told : Result Header Refusal → Type 0
+Told (Err r) = (1 ≤ number r) × (number r ≤ 8)
+Told (Ok h) = Unit {0}
 
-chosen-so : (s : Slot) (a b : Candidate) → Told (finding.chosen_by s a b)
-chosen-so slot.Neither a b = (lit≤ tt, lit≤ tt)
-chosen-so slot.First a b = checked Told a.rules _ _ (lit≤ tt, lit≤ tt) (λ _. tt)
-chosen-so slot.Second a b = checked Told b.rules _ _ (lit≤ tt, lit≤ tt) (λ _. tt)
+chosen-so : (s : Option Slot) (a b : Candidate) → Told (finding.chosen_by s a b)
+chosen-so None a b = (lit≤ tt, lit≤ tt)
+chosen-so (Some slot.First) a b = checked Told a.rules _ _ (lit≤ tt, lit≤ tt) (λ _. tt)
+chosen-so (Some slot.Second) a b = checked Told b.rules _ _ (lit≤ tt, lit≤ tt) (λ _. tt)
 
-within-so : (n : ℕ) (a : Answer) → Told a → Told (within_image n a)
-within-so n (answer.Refused c) h = h
-within-so n (answer.Current x) h = checked Told (inside_rule x n) _ _ (lit≤ tt, lit≤ tt) (λ _. tt)
+within-so : (n : ℕ) (a : Result Header Refusal) → Told a → Told (within_image n a)
+within-so n (Err r) h = h
+within-so n (Ok x) h = checked Told (inside_rule x n) _ _ (lit≤ tt, lit≤ tt) (λ _. tt)
 
 module _ (n capacity : ℕ) where
-  answered-so : (a : Answer) → Told a → Numbered (answered n capacity a)
-  answered-so (answer.Refused c) h = h
-  answered-so (answer.Current x) h =
+  answered-so : (a : Result Header Refusal) → Told a → Numbered (answered n capacity a)
+  answered-so (Err r) h = h
+  answered-so (Ok x) h =
       checked Numbered (ltb x.log_length 4294967296 && inside x.log_offset x.log_length n) _ _ (lit≤ tt, lit≤ tt)
       (λ _. log-so (context_of n capacity x))
 
   headed-so : (s : Stage) (p : List ℕ) → Numbered (headed n capacity (finding.step_of n s p))
   unfolding finding.step_of
-  headed-so stage.Identifier p = checked (λ (r : header.Step). Numbered (headed n capacity r)) (starts p vhdxfile) _ _ (lit≤ tt, lit≤ tt) (λ _. tt)
+  headed-so stage.Identifier p = checked (λ (r : finding.Step). Numbered (headed n capacity r)) (starts p vhdxfile) _ _ (lit≤ tt, lit≤ tt) (λ _. tt)
   headed-so stage.First p = tt
   headed-so (stage.Second c) p =
       let a = finding.candidate_of slot2 p in
@@ -142,7 +138,7 @@ module _ (n capacity : ℕ) where
       (chosen-so (chosen_slot c.valid a.valid c.header.sequence_number a.header.sequence_number) c a))
 
   started-so : Numbered (headed n capacity (finding.started n capacity))
-  started-so = checked (λ (r : header.Step). Numbered (headed n capacity r)) (leb n capacity && leb mib n) _ _ (lit≤ tt, lit≤ tt) (λ _. tt)
+  started-so = checked (λ (r : finding.Step). Numbered (headed n capacity r)) (leb n capacity && leb mib n) _ _ (lit≤ tt, lit≤ tt) (λ _. tt)
 
 step_so : (c : Context) (x : Phase) (p : List ℕ) → Numbered (step_in c x p)
 step_so c (phase.Header s) p = headed-so c.length c.capacity s p

@@ -1,4 +1,3 @@
-pub mod Turns
 pub mod Advancing
 pub mod Planned
 pub mod Asking

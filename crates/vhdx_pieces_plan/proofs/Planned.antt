@@ -3,7 +3,6 @@
 use mathlib.Core.Path.{◌≡◌, refl, sym, ap, ◌∙◌, subst}
 use mathlib.Core.Bool.{Bool, true, false, not, cond, ◌&&◌, and-eq-true_iff}
 use mathlib.Core.List.{List, []}
-use mathlib.Core.Option.{Option, none, some}
 use Prim.Native.Nat.{ℕ, ◌+◌, ◌*◌, ◌/◌, ◌%◌, ◌≤◌, ◌<◌, max}
 use native.Mathlib.Numerals.{add-one}
 use native.Mathlib.Omega.{arith}
@@ -11,18 +10,19 @@ use lib.Dec.{eqb, leb, ltb, lit≤}
 use lib.ListN.{length, take, drop}
 use lib.Seq.{drop-drop}
 use borrow.Author.Tests.{leb-true, leb-false, le-leb, lt-ltb}
-use Rattle.decision.specs.Refusal.{check}
+use Rattle.std.specs.Prelude.{Option, None, Some, Result, Ok, Err}
+use Rattle.std.specs.declared.ops.ControlFlow.TheVariants.{Break}
+use Rattle.decision.specs.declared.Refusal.{Refusal}
+use Rattle.decision.specs.declared.Refusal.TheVariants.{NoLogSequence, ShorterThanFlushed, ForbiddenSector, FinalLength}
+use Rattle.decision.specs.Refusal.{check, number}
 use Rattle.extent.specs.declared.Extent.{Extent}
 use Rattle.extent.specs.Extent.{part, mib}
 use Rattle.vhdx_header.specs.declared.Header.{Header}
-use Rattle.vhdx_header.specs.declared.Answer.{Answer}
-use Rattle.vhdx_header.specs.declared.Answer.TheVariants as answer
 use Rattle.vhdx_header.specs.Current.{current_header}
 use Rattle.vhdx_header.proofs.Laws.{accepted}
 use Rattle.vhdx_entry.specs.Ring.{sector_count, sector_at}
 use Rattle.vhdx_entry.proofs.Laws.{within-take}
 use Rattle.vhdx_sequence.specs.declared.Sequence.{Sequence}
-use Rattle.vhdx_sequence.specs.declared.Found.{Found}
 use Rattle.vhdx_sequence.specs.Sequence.{active_sequence}
 use Rattle.vhdx_sequence.specs.Scan.{fresh}
 use Rattle.vhdx_sequence.proofs.Laws as sequences
@@ -36,31 +36,29 @@ use Rattle.vhdx_log.specs.Plan.{log_bytes, extent_of, plan_sequence, plan_log, p
 use Rattle.vhdx_log.specs.Answers.{log_of}
 use Rattle.vhdx_log.proofs.Decisions.{refused-6, refused-7, refused-8, applied, exact-count, exact}
 use Rattle.vhdx_log.proofs.Answering.{zero_number, log-length, plan-refused, log_is}
-use Rattle.vhdx_pieces_header.specs.declared.Step as header
+use Rattle.vhdx_pieces_header.specs.declared.Stage.{Stage}
+use Rattle.vhdx_pieces_header.specs.declared.Stage.TheVariants as stage
 use Rattle.vhdx_pieces_header.specs.Finding as finding
 use Rattle.vhdx_pieces_header.proofs.Found.{finds-header}
-use Rattle.vhdx_pieces_scan.specs.declared.Step as scan
 use Rattle.vhdx_pieces_scan.specs.Scanning as scanning
-use Rattle.vhdx_pieces_scan.proofs.Told.{found-is}
 use Rattle.vhdx_pieces_scan.proofs.Scanned.{scans-active}
 use Rattle.vhdx_pieces_survey.specs.declared.Report.{Report}
-use Rattle.vhdx_pieces_survey.specs.declared.Step as survey
 use Rattle.vhdx_pieces_survey.specs.Touring as touring
 use Rattle.vhdx_pieces_survey.proofs.Toured.{surveys-all}
 use Rattle.vhdx_pieces_plan.specs.declared.Context.{Context}
 use Rattle.vhdx_pieces_plan.specs.declared.Phase.TheVariants as phase
 use Rattle.vhdx_pieces_plan.specs.declared.Order.{Order}
-use Rattle.vhdx_pieces_plan.specs.declared.Outcome.{Outcome}
-use Rattle.vhdx_pieces_plan.specs.declared.Outcome.TheVariants.{Refused, Apply}
-use Rattle.vhdx_pieces_plan.specs.declared.Step.{Step}
-use Rattle.vhdx_pieces_plan.specs.declared.Step.TheVariants.{Ended}
-use Rattle.vhdx_pieces_plan.specs.Planning.{sectors_of, sector_in, unknown, judged, toured, sought, scanned, context_of, with_header, answered, headed, step_of, Plans, stop, next, plan_in, count_of, WalksIn, Decides, PlansAll}
-use Rattle.vhdx_pieces_plan.proofs.Turns.{size_small}
+use Rattle.vhdx_pieces_plan.specs.Planning.{Outcome, Step, sectors_of, sector_in, unknown, judged, toured, sought, scanned, without_log, context_of, with_header, answered, headed, step_of, Plans, stop, next, plan_in, count_of, WalksIn, Decides, PlansAll}
 
 -- ---- from a part's run to the planner's
 
+size_small : (s : Stage) → finding.size_of s ≤ 4096
+size_small stage.Identifier = lit≤ tt
+size_small stage.First = lit≤ tt
+size_small (stage.Second c) = lit≤ tt
+
 module _ (b : List ℕ) (n : ℕ) where
-  lift-header : (capacity : ℕ) {st : header.Step} {a : Answer} {o : Outcome} → finding.Finds b n st a → Plans b n (answered n capacity a) o → Plans b n (headed n capacity st) o
+  lift-header : (capacity : ℕ) {st : finding.Step} {a : Result Header Refusal} {o : Outcome} → finding.Finds b n st a → Plans b n (answered n capacity a) o → Plans b n (headed n capacity st) o
   unfolding step_of part
   lift-header capacity finding.stop h = h
   lift-header capacity {o = o} (finding.next {s} inside r) h =
@@ -78,14 +76,14 @@ module _ (b : List ℕ) (n : ℕ) where
     fits : (k : ℕ) → k < sector_count (part b c.log) → (sector_in c.log k).offset + 4096 ≤ n
     fits k h = omega arith
 
-    lift-scan : {st : scan.Step} {q : Option Sequence} {o : Outcome} → scanning.Scans (part b c.log) c.guid st q → Plans b n (sought c (scanning.found_of q)) o → Plans b n (scanned c st) o
+    lift-scan : {st : scanning.Step} {q : Option Sequence} {o : Outcome} → scanning.Scans (part b c.log) c.guid st q → Plans b n (sought c q) o → Plans b n (scanned c st) o
     unfolding step_of
-    lift-scan {o = o} (scanning.stop {q}) h = subst (λ (f : Found). Plans b n (sought c f) o) (sym (found-is q)) h
+    lift-scan scanning.stop h = h
     lift-scan {o = o} (scanning.next {s} below r) h =
         next {p = record { context = c; phase = phase.Scan s }} {o = o} sized (fits (scanning.wanted_of s) below) (lit≤ tt)
         (subst (λ (x : List ℕ). Plans b n (scanned c (scanning.step_of c.guid s x)) o) (sym (sector-part c.log (scanning.wanted_of s) (omega arith))) (lift-scan r h))
 
-    lift-survey : (q : Sequence) {st : survey.Step} {r : Report} {o : Outcome} → touring.Surveys (part b c.log) c.log st r → Plans b n (Ended (judged c q r)) o → Plans b n (toured c q st) o
+    lift-survey : (q : Sequence) {st : touring.Step} {r : Report} {o : Outcome} → touring.Surveys (part b c.log) c.log st r → Plans b n (Break (judged c q r)) o → Plans b n (toured c q st) o
     unfolding step_of
     lift-survey q touring.stop h = h
     lift-survey q {o = o} (touring.next {t} below r) h =
@@ -100,7 +98,7 @@ record Standing (n : ℕ) (b log : List ℕ) (o : Outcome) (p : Plan) : Type 0 w
   counted : count_of o ≡ count p
   walks : WalksIn n b log o
 
-refusal : (n : ℕ) (b log : List ℕ) {c : ℕ} {p : Plan} → refused c ≡ p → Standing n b log (Refused c) p
+refusal : (n : ℕ) (b log : List ℕ) {r : Refusal} {p : Plan} → refused (number r) ≡ p → Standing n b log (Err r) p
 refusal n b log e = record { same = e; counted = ap count e; walks = tt }
 
 module _ (b log : List ℕ) (c : Context) (q : Sequence) (w : Walkable log q.start q.more) (here : c.log.offset + c.log.length ≤ c.length) (log-here : part b c.log ≡ log) (sized : length log ≡ sectors_of c.log * 4096) where
@@ -117,7 +115,7 @@ module _ (b log : List ℕ) (c : Context) (q : Sequence) (w : Walkable log q.sta
   order = record { length = final; count = capped (length (sectors (all_descriptors es))); log = c.log; start = q.start; left = q.more + 1 }
 
   module _ (flushed : (head es).flushed ≤ c.length) (apart : some_lies c.log (sectors (all_descriptors es)) ≡ false) where
-    by_8 : (t : Bool) → (leb final c.capacity && leb final length_limit) ≡ t → Standing c.length b log (check t (Refused 8) (Apply order)) (work c.log es c.length c.capacity)
+    by_8 : (t : Bool) → (leb final c.capacity && leb final length_limit) ≡ t → Standing c.length b log (check t (Err FinalLength) (Ok order)) (work c.log es c.length c.capacity)
     by_8 false h = refusal c.length b log (refused-8 c.log es c.length c.capacity flushed apart final refl h)
     by_8 true h =
         let done = applied c.log es c.length c.capacity flushed apart final refl h in
@@ -140,12 +138,12 @@ module _ (b log : List ℕ) (c : Context) (q : Sequence) (w : Walkable log q.sta
         }
 
   by-7 : (head es).flushed ≤ c.length → (t : Bool) → some_lies c.log (sectors (all_descriptors es)) ≡ t
-      → Standing c.length b log (check (not t) (Refused 7) (check (leb final c.capacity && leb final length_limit) (Refused 8) (Apply order))) (work c.log es c.length c.capacity)
+      → Standing c.length b log (check (not t) (Err ForbiddenSector) (check (leb final c.capacity && leb final length_limit) (Err FinalLength) (Ok order))) (work c.log es c.length c.capacity)
   by-7 f true h = refusal c.length b log (refused-7 c.log es c.length c.capacity f h)
   by-7 f false h = by_8 f h (leb final c.capacity && leb final length_limit) refl
 
   by-6 : (t : Bool) → leb (head es).flushed c.length ≡ t
-      → Standing c.length b log (check t (Refused 6) (check (not (some_lies c.log (sectors (all_descriptors es)))) (Refused 7) (check (leb final c.capacity && leb final length_limit) (Refused 8) (Apply order)))) (work c.log es c.length c.capacity)
+      → Standing c.length b log (check t (Err ShorterThanFlushed) (check (not (some_lies c.log (sectors (all_descriptors es)))) (Err ForbiddenSector) (check (leb final c.capacity && leb final length_limit) (Err FinalLength) (Ok order)))) (work c.log es c.length c.capacity)
   by-6 false h = refusal c.length b log (refused-6 c.log es c.length c.capacity (leb-false _ _ h))
   by-6 true h = by-7 (leb-true _ _ h) (some_lies c.log (sectors (all_descriptors es))) refl
 
@@ -154,7 +152,7 @@ module _ (b log : List ℕ) (c : Context) (q : Sequence) (w : Walkable log q.sta
 
 -- ---- the log of a header
 
-module _ (b : List ℕ) (n : ℕ) (h : Header) (current : current_header b n ≡ answer.Current h) where
+module _ (b : List ℕ) (n : ℕ) (h : Header) (current : current_header b n ≡ Ok h) where
   abbrev context : Context
   context = context_of n (length b) h
 
@@ -181,13 +179,13 @@ module _ (b : List ℕ) (n : ℕ) (h : Header) (current : current_header b n ≡
   inside = (accepted b n current).inside
 
   -- a result for a step, with the plan of this log
-  abbrev Result : Step → Plan → Type 0
-  Result s p = (o : Outcome) × Plans b n s o × Standing n b log o p
+  abbrev Reached : Step → Plan → Type 0
+  Reached s p = (o : Outcome) × Plans b n s o × Standing n b log o p
 
-  after-scan : (x : Option Sequence) → active_sequence log h.log_guid ≡ x → Result (sought context (scanning.found_of x)) (plan_sequence (extent_of h) log n (length b) x)
+  after-scan : (x : Option Sequence) → active_sequence log h.log_guid ≡ x → Reached (sought context x) (plan_sequence (extent_of h) log n (length b) x)
   unfolding plan_sequence
-  after-scan none e = (Refused 5, stop, refusal n b log refl)
-  after-scan (some q) e =
+  after-scan None e = (Err NoLogSequence, stop, refusal n b log refl)
+  after-scan (Some q) e =
       let f = sequences.found log h.log_guid q log-whole e in
       let w = walkable log h.log_guid q.start q.more log-whole log-small f.0 f.1 f.2 in
       let s : q.start < sectors_of context.log = omega (arith, f.0, counts) in
@@ -202,13 +200,13 @@ module _ (b : List ℕ) (n : ℕ) (h : Header) (current : current_header b n ≡
   scans = subst (λ (m : ℕ). scanning.Scans log h.log_guid (scanning.resumed m 0 fresh) (active_sequence log h.log_guid)) counts (scans-active log h.log_guid log-whole (omega (arith, log-small)))
 
   without : (t : Bool) → (leb n (length b) && leb n length_limit) ≡ t
-      → Standing n b log (check t (Refused 8) (Apply (record { length = n; count = 0; log = context.log; start = 0; left = 0 }))) (check t (refused 8) (apply n []))
+      → Standing n b log (check t (Err FinalLength) (Ok (record { length = n; count = 0; log = context.log; start = 0; left = 0 }))) (check t (refused 8) (apply n []))
   unfolding descriptors_on
   without true e = record { same = refl; counted = refl; walks = λ k. absurd (omega (arith, k)) }
   without false e = refusal n b log refl
 
   by-guid : (t : Bool) → (eqb h.log_guid.low 0 && eqb h.log_guid.high 0) ≡ t
-      → Result (cond t (Ended (check (leb n (length b) && leb n length_limit) (Refused 8) (Apply (record { length = n; count = 0; log = context.log; start = 0; left = 0 })))) (scanned context (scanning.resumed (sectors_of context.log) 0 fresh)))
+      → Reached (cond t (Break (without_log context)) (scanned context (scanning.resumed (sectors_of context.log) 0 fresh)))
       (cond t (apply_within (length b) n []) (plan_sequence (extent_of h) log n (length b) (active_sequence log h.log_guid)))
   by-guid true e = (_, stop, without (leb n (length b) && leb n length_limit) refl)
   by-guid false e =
@@ -220,7 +218,7 @@ module _ (b : List ℕ) (n : ℕ) (h : Header) (current : current_header b n ≡
 
   plan-is : plan_log h log n (length b) ≡ plan b n
   unfolding plan plan_header
-  plan-is = ap (λ (l : List ℕ). plan_log h l n (length b)) (sym log-same) ∙ sym (ap (λ (a : Answer). plan_header a b n) current)
+  plan-is = ap (λ (l : List ℕ). plan_log h l n (length b)) (sym log-same) ∙ sym (ap (λ (a : Result Header Refusal). plan_header a b n) current)
 
   decides : (o : Outcome) → Standing n b log o (plan_log h log n (length b)) → Decides b n o
   decides o s =
@@ -246,7 +244,7 @@ module _ (b : List ℕ) (n : ℕ) (h : Header) (current : current_header b n ≡
 pub plans-all : PlansAll
 plans-all b n = let r = go (current_header b n) refl in (r.0, lift-header b n (length b) (finds-header b n) r.1, r.2)
   where
-    go : (a : Answer) → current_header b n ≡ a → (o : Outcome) × Plans b n (answered n (length b) (current_header b n)) o × Decides b n o
-    go (answer.Refused c) e =
-        (Refused c, rw e stop, record { same = plan-refused b n c e; counted = ap count (plan-refused b n c e); walks = tt })
-    go (answer.Current h) e = let r = with-header b n h e in (r.0, rw e r.1, r.2)
+    go : (a : Result Header Refusal) → current_header b n ≡ a → (o : Outcome) × Plans b n (answered n (length b) (current_header b n)) o × Decides b n o
+    go (Err r) e =
+        (Err r, rw e stop, record { same = plan-refused b n r e; counted = ap count (plan-refused b n r e); walks = tt })
+    go (Ok h) e = let r = with-header b n h e in (r.0, rw e r.1, r.2)

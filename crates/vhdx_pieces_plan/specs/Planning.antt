@@ -1,15 +1,15 @@
 -- The log's work planned in pieces: what a planner wants, and what it does with it.
 -- Assumes nothing.
-use Rattle.std.specs.Prelude.{false, not, cond, ◌&&◌, List, ◌≡◌, ℕ, ◌+◌, ◌*◌, ◌/◌, ◌≤◌, ◌<◌, max, nat_eq, nat_le, nat_lt, length}
-use Rattle.decision.specs.Refusal.{check}
+use Rattle.std.specs.Prelude.{false, not, cond, ◌&&◌, List, Option, None, Some, Result, Ok, Err, ◌≡◌, ℕ, ◌+◌, ◌*◌, ◌/◌, ◌≤◌, ◌<◌, max, nat_eq, nat_le, nat_lt, length}
+use Rattle.std.specs.declared.ops.ControlFlow.{ControlFlow}
+use Rattle.std.specs.declared.ops.ControlFlow.TheVariants.{Continue, Break}
+use Rattle.decision.specs.declared.Refusal.{Refusal}
+use Rattle.decision.specs.declared.Refusal.TheVariants.{HeaderField, NoLogSequence, ShorterThanFlushed, ForbiddenSector, FinalLength}
+use Rattle.decision.specs.Refusal.{check, number}
 use Rattle.extent.specs.declared.Extent.{Extent}
-use Rattle.extent.specs.Extent.{inside, part}
-use Rattle.vhdx_header.specs.declared.Answer.{Answer}
-use Rattle.vhdx_header.specs.declared.Answer.TheVariants as answer
+use Rattle.extent.specs.Extent.{inside, nowhere, part}
 use Rattle.vhdx_header.specs.declared.Header.{Header}
 use Rattle.vhdx_sequence.specs.declared.Sequence.{Sequence}
-use Rattle.vhdx_sequence.specs.declared.Found.{Found}
-use Rattle.vhdx_sequence.specs.declared.Found.TheVariants as found
 use Rattle.vhdx_sequence.specs.Scan.{fresh}
 use Rattle.vhdx_walk.specs.Entries.{sectors, furthest, length_limit}
 use Rattle.vhdx_walk.specs.Cursor.{descriptors_on, AllReadable}
@@ -18,25 +18,23 @@ use Rattle.vhdx_log.specs.Plan.{plan}
 use Rattle.vhdx_log.specs.Answers.{log_of}
 use Rattle.vhdx_pieces_header.specs.declared.Stage.{Stage}
 use Rattle.vhdx_pieces_header.specs.declared.Stage.TheVariants as stage
-use Rattle.vhdx_pieces_header.specs.declared.Step as header
-use Rattle.vhdx_pieces_header.specs.declared.Step.TheVariants as header_step
 use Rattle.vhdx_pieces_header.specs.Finding as finding
-use Rattle.vhdx_pieces_scan.specs.declared.Step as scan
-use Rattle.vhdx_pieces_scan.specs.declared.Step.TheVariants as scan_step
 use Rattle.vhdx_pieces_scan.specs.Scanning as scanning
 use Rattle.vhdx_pieces_survey.specs.declared.Report.{Report}
-use Rattle.vhdx_pieces_survey.specs.declared.Step as survey
-use Rattle.vhdx_pieces_survey.specs.declared.Step.TheVariants as survey_step
 use Rattle.vhdx_pieces_survey.specs.Touring as touring
 use Rattle.vhdx_pieces_plan.specs.declared.Context.{Context}
 use Rattle.vhdx_pieces_plan.specs.declared.Phase.{Phase}
 use Rattle.vhdx_pieces_plan.specs.declared.Phase.TheVariants as phase
 use Rattle.vhdx_pieces_plan.specs.declared.Planner.{Planner}
 use Rattle.vhdx_pieces_plan.specs.declared.Order.{Order}
-use Rattle.vhdx_pieces_plan.specs.declared.Outcome.{Outcome}
-use Rattle.vhdx_pieces_plan.specs.declared.Outcome.TheVariants.{Refused, Apply}
-use Rattle.vhdx_pieces_plan.specs.declared.Step.{Step}
-use Rattle.vhdx_pieces_plan.specs.declared.Step.TheVariants.{Read, Ended}
+
+-- what it ends with: an order, or why there is none
+abbrev pub Outcome : Type 0
+Outcome = Result Order Refusal
+
+-- bytes of the file are wanted, or how it ended
+abbrev pub Step : Type 0
+Step = ControlFlow Outcome Planner
 
 abbrev pub sectors_of : Extent → ℕ
 sectors_of log = log.length / 4096
@@ -58,36 +56,41 @@ wanted_of p = wanted_in p.context.log p.phase
 
 -- before the log is known
 abbrev pub unknown : ℕ → ℕ → Context
-unknown n capacity = record { length = n; capacity = capacity; log = record { offset = 0; length = 0 }; guid = record { low = 0; high = 0 } }
+unknown n capacity = record { length = n; capacity = capacity; log = nowhere; guid = record { low = 0; high = 0 } }
 
 -- 6 to 8
 abbrev pub judged : Context → Sequence → Report → Outcome
 judged c q r =
-    check (nat_le r.flushed c.length) (Refused 6)
-    (check (not r.found.lies) (Refused 7)
-    (check (nat_le (max c.length (max r.last r.found.end)) c.capacity && nat_le (max c.length (max r.last r.found.end)) length_limit) (Refused 8)
-    (Apply
+    check (nat_le r.flushed c.length) (Err ShorterThanFlushed)
+    (check (not r.found.lies) (Err ForbiddenSector)
+    (check (nat_le (max c.length (max r.last r.found.end)) c.capacity && nat_le (max c.length (max r.last r.found.end)) length_limit) (Err FinalLength)
+    (Ok
     (record { length = max c.length (max r.last r.found.end); count = r.found.count; log = c.log; start = q.start; left = q.more + 1 }))))
 
-abbrev pub toured : Context → Sequence → survey.Step → Step
-toured c q (survey_step.Sector t) = Read (record { context = c; phase = phase.Survey (record { found = q; tour = t }) })
-toured c q (survey_step.Ended r) = Ended (judged c q r)
-toured c q survey_step.Broken = Ended (Refused 5)
+abbrev pub toured : Context → Sequence → touring.Step → Step
+toured c q (Continue t) = Continue (record { context = c; phase = phase.Survey (record { found = q; tour = t }) })
+toured c q (Break (Some r)) = Break (judged c q r)
+toured c q (Break None) = Break (Err NoLogSequence)
 
-abbrev pub sought : Context → Found → Step
-sought c found.Nothing = Ended (Refused 5)
-sought c (found.At q) =
-    check (nat_lt q.start (sectors_of c.log) && nat_lt q.more (sectors_of c.log)) (Ended (Refused 5))
+abbrev pub sought : Context → Option Sequence → Step
+sought c None = Break (Err NoLogSequence)
+sought c (Some q) =
+    check (nat_lt q.start (sectors_of c.log) && nat_lt q.more (sectors_of c.log)) (Break (Err NoLogSequence))
     (toured c q (touring.started (record { at = q.start; len = sectors_of c.log }) q.more))
 
-abbrev pub scanned : Context → scan.Step → Step
-scanned c (scan_step.Sector s) = Read (record { context = c; phase = phase.Scan s })
-scanned c (scan_step.Ended q) = sought c q
+abbrev pub scanned : Context → scanning.Step → Step
+scanned c (Continue s) = Continue (record { context = c; phase = phase.Scan s })
+scanned c (Break q) = sought c q
+
+-- 8 still applies to the length itself
+abbrev pub without_log : Context → Outcome
+without_log c =
+    check (nat_le c.length c.capacity && nat_le c.length length_limit) (Err FinalLength) (Ok (record { length = c.length; count = 0; log = c.log; start = 0; left = 0 }))
 
 abbrev pub with_log : Context → Step
 with_log c =
     cond (nat_eq c.guid.low 0 && nat_eq c.guid.high 0)
-    (Ended (check (nat_le c.length c.capacity && nat_le c.length length_limit) (Refused 8) (Apply (record { length = c.length; count = 0; log = c.log; start = 0; left = 0 }))))
+    (Break (without_log c))
     (scanned c (scanning.resumed (sectors_of c.log) 0 fresh))
 
 abbrev pub context_of : ℕ → ℕ → Header → Context
@@ -95,15 +98,15 @@ context_of n capacity h = record { length = n; capacity = capacity; log = record
 
 abbrev pub with_header : ℕ → ℕ → Header → Step
 with_header n capacity h =
-    check (nat_lt h.log_length 4294967296 && inside h.log_offset h.log_length n) (Ended (Refused 4)) (with_log (context_of n capacity h))
+    check (nat_lt h.log_length 4294967296 && inside h.log_offset h.log_length n) (Break (Err HeaderField)) (with_log (context_of n capacity h))
 
-abbrev pub answered : ℕ → ℕ → Answer → Step
-answered n capacity (answer.Refused c) = Ended (Refused c)
-answered n capacity (answer.Current h) = with_header n capacity h
+abbrev pub answered : ℕ → ℕ → Result Header Refusal → Step
+answered n capacity (Err r) = Break (Err r)
+answered n capacity (Ok h) = with_header n capacity h
 
-abbrev pub headed : ℕ → ℕ → header.Step → Step
-headed n capacity (header_step.Read s) = Read (record { context = unknown n capacity; phase = phase.Header s })
-headed n capacity (header_step.Ended a) = answered n capacity a
+abbrev pub headed : ℕ → ℕ → finding.Step → Step
+headed n capacity (Continue s) = Continue (record { context = unknown n capacity; phase = phase.Header s })
+headed n capacity (Break a) = answered n capacity a
 
 abbrev pub started : ℕ → ℕ → Step
 started n capacity = headed n capacity (finding.started n capacity)
@@ -142,13 +145,13 @@ pub record OrderFor (n : ℕ) (w : Order) : Type 0 where
   pub start : 0 < w.left → w.start < sectors_of w.log
 
 abbrev pub Ordered : ℕ → Outcome → Type 0
-Ordered n (Refused c) = Unit {0}
-Ordered n (Apply w) = OrderFor n w
+Ordered n (Err r) = Unit {0}
+Ordered n (Ok w) = OrderFor n w
 
 -- it may be fed again, for a file of the same length; or what it ordered can be done
 abbrev pub Kept : ℕ → Step → Type 0
-Kept n (Read p) = Sane p × (p.context.length ≡ n)
-Kept n (Ended o) = Ordered n o
+Kept n (Continue p) = Sane p × (p.context.length ≡ n)
+Kept n (Break o) = Ordered n o
 
 -- ---- how many pieces it still asks for, at most
 
@@ -169,18 +172,18 @@ plan_most = 3 + scan_most + survey_most
 
 abbrev pub left_in : Phase → ℕ
 left_in (phase.Header s) = headers_left s + scan_most + survey_most
-left_in (phase.Scan s) = scanning.left_of (scan_step.Sector s) + survey_most
-left_in (phase.Survey s) = touring.left_of (survey_step.Sector s.tour)
+left_in (phase.Scan s) = scanning.left_of (Continue s) + survey_most
+left_in (phase.Survey s) = touring.left_of (Continue s.tour)
 
 abbrev pub left_of : Step → ℕ
-left_of (Read p) = left_in p.phase
-left_of (Ended o) = 0
+left_of (Continue p) = left_in p.phase
+left_of (Break o) = 0
 
 -- ---- the theorems
 
 -- whatever is fed, it may be fed again and asks for less, or has ended with what can be done
 abbrev pub PlanAdvances : Type 0
-PlanAdvances = (x : Planner) (p : List ℕ) → Sane x → Kept x.context.length (step_of x p) × (left_of (step_of x p) < left_of (Read x))
+PlanAdvances = (x : Planner) (p : List ℕ) → Sane x → Kept x.context.length (step_of x p) × (left_of (step_of x p) < left_of (Continue x))
 
 -- at the start
 abbrev pub PlanStarts : Type 0
@@ -194,30 +197,30 @@ PlanWants =
 
 -- a refusal has a number of 1 to 8
 abbrev pub NumberedIn : Outcome → Type 0
-NumberedIn (Refused c) = (1 ≤ c) × (c ≤ 8)
-NumberedIn (Apply w) = Unit {0}
+NumberedIn (Err r) = (1 ≤ number r) × (number r ≤ 8)
+NumberedIn (Ok w) = Unit {0}
 
 abbrev pub Numbered : Step → Type 0
-Numbered (Read p) = Unit {0}
-Numbered (Ended o) = NumberedIn o
+Numbered (Continue p) = Unit {0}
+Numbered (Break o) = NumberedIn o
 
 abbrev pub PlanRefuses : Type 0
 PlanRefuses = ((n capacity : ℕ) → Numbered (started n capacity)) × ((x : Planner) (p : List ℕ) → Numbered (step_of x p))
 
 -- fed the bytes of b that it wants, all of them among its first n and at most 64 KiB at once, it ends with this outcome
 pub data Plans (b : List ℕ) (n : ℕ) : Step → Outcome → Type 0 where
-  stop : {o : Outcome} → Plans b n (Ended o) o
+  stop : {o : Outcome} → Plans b n (Break o) o
   next : {p : Planner} {o : Outcome} → p.context.length ≡ n → (wanted_of p).offset + (wanted_of p).length ≤ n → (wanted_of p).length ≤ 65536
-      → Plans b n (step_of p (part b (wanted_of p))) o → Plans b n (Read p) o
+      → Plans b n (step_of p (part b (wanted_of p))) o → Plans b n (Continue p) o
 
 -- the plan that an outcome is, the log's bytes being these
 abbrev pub plan_in : List ℕ → Outcome → Plan
-plan_in log (Refused c) = refused c
-plan_in log (Apply w) = apply w.length (sectors (descriptors_on log w.start 0 w.left))
+plan_in log (Err r) = refused (number r)
+plan_in log (Ok w) = apply w.length (sectors (descriptors_on log w.start 0 w.left))
 
 abbrev pub count_of : Outcome → ℕ
-count_of (Refused c) = 0
-count_of (Apply w) = w.count
+count_of (Err r) = 0
+count_of (Ok w) = w.count
 
 -- what is known of an order where it is the plan: the log is where it says, its entries can be walked, no sector lies in the first MiB
 -- or the log, none ends above the final length
@@ -231,8 +234,8 @@ pub record Walks (n : ℕ) (b log : List ℕ) (w : Order) : Type 0 where
   pub apart : some_lies w.log (sectors (descriptors_on log w.start 0 w.left)) ≡ false
 
 abbrev pub WalksIn : ℕ → List ℕ → List ℕ → Outcome → Type 0
-WalksIn n b log (Refused c) = Unit {0}
-WalksIn n b log (Apply w) = 0 < w.left → Walks n b log w
+WalksIn n b log (Err r) = Unit {0}
+WalksIn n b log (Ok w) = 0 < w.left → Walks n b log w
 
 -- an outcome is the plan of the image that is the first n bytes of b
 pub record Decides (b : List ℕ) (n : ℕ) (o : Outcome) : Type 0 where

@@ -3,15 +3,18 @@
 #![tactic(auto)]
 
 ghost use Rattle.std.specs.Prelude.{◌≡◌, ◌+◌, ◌≤◌, ◌<◌, length as length_of};
-ghost use Rattle.vhdx_pieces_plan.specs.Planning.{sectors_of, sector_in, Sane, Kept, wanted_of, started, headed, answered, with_header, with_log, scanned, sought, toured, judged as judged_of, step_of};
+ghost use Rattle.vhdx_pieces_plan.specs.Planning.{sectors_of, sector_in, Sane, Kept, wanted_of, started, headed, with_header, with_log, without_log, scanned, sought, toured, judged as judged_of, step_of};
 
+use decision::Refusal;
 use extent::Extent;
+use field::Guid;
+use std::ops::ControlFlow;
 use vhdx_entry::ring::RingPos;
-use vhdx_header::{Answer, Header};
-use vhdx_log::{decide, number};
+use vhdx_header::Header;
+use vhdx_log::decide;
 use vhdx_pieces_scan::Scanner;
 use vhdx_pieces_survey::{Report, Tour};
-use vhdx_sequence::{Found, Sequence};
+use vhdx_sequence::Sequence;
 
 // The file's length, the stated capacity, where the log lies and its identifier, as soon as they are known.
 #[derive(Clone, Copy)]
@@ -19,7 +22,7 @@ pub struct Context {
     pub length: u64,
     pub capacity: u64,
     pub log: Extent,
-    pub guid: field::Guid,
+    pub guid: Guid,
 }
 
 // A found sequence that is surveyed.
@@ -53,19 +56,8 @@ pub struct Order {
     pub left: u64,
 }
 
-#[derive(Clone, Copy)]
-pub enum Outcome {
-    // document 01's number
-    Refused(u64),
-    Apply(Order),
-}
-
-#[derive(Clone, Copy)]
-pub enum Step {
-    // bytes of the file are wanted
-    Read(Planner),
-    Ended(Outcome),
-}
+// Bytes of the file are wanted, or it has ended with an order, or why there is none.
+pub type Step = ControlFlow<Result<Order, Refusal>, Planner>;
 
 // Of a file of this length, in this capacity.
 pub fn start(length: u64, capacity: u64) -> Step
@@ -83,19 +75,13 @@ pub fn wanted(p: Planner) -> Extent
     requires { Sane p }
     ensures { (result ≡ wanted_of p) × (result.offset + result.length ≤ p.context.length) × (result.length ≤ 65536) }
 {
-    let context = p.context;
-    let phase = p.phase;
-    let log = context.log;
-    match phase {
+    match p.phase {
         Phase::Header(stage) => Extent {
             offset: vhdx_pieces_header::offset(stage),
             length: vhdx_pieces_header::size(stage),
         },
-        Phase::Scan(s) => sector_at(log, vhdx_pieces_scan::wanted(s)),
-        Phase::Survey(s) => {
-            let tour = s.tour;
-            sector_at(log, vhdx_pieces_survey::wanted(tour))
-        }
+        Phase::Scan(s) => sector_at(p.context.log, vhdx_pieces_scan::wanted(s)),
+        Phase::Survey(s) => sector_at(p.context.log, vhdx_pieces_survey::wanted(s.tour)),
     }
 }
 
@@ -116,23 +102,21 @@ pub fn next(p: Planner, piece: &[u8]) -> Step
     ensures { (result ≡ step_of p piece.now) × Kept p.context.length result }
 {
     let context = p.context;
-    let phase = p.phase;
-    match phase {
+    match p.phase {
         Phase::Header(stage) => header_turn(
             context.length,
             context.capacity,
             vhdx_pieces_header::next(stage, context.length, piece),
         ),
-        Phase::Scan(s) => {
-            let guid = context.guid;
-            scan_turn(context, vhdx_pieces_scan::next(s, guid, piece))
-        }
-        Phase::Survey(s) => {
-            let tour = s.tour;
-            let found = s.found;
-            let log = context.log;
-            survey_turn(context, found, vhdx_pieces_survey::next(tour, log, piece))
-        }
+        Phase::Scan(s) => scan_turn(
+            context,
+            vhdx_pieces_scan::next(s, context.guid, field::array_at(piece, 0)),
+        ),
+        Phase::Survey(s) => survey_turn(
+            context,
+            s.found,
+            vhdx_pieces_survey::next(s.tour, context.log, field::array_at(piece, 0)),
+        ),
     }
 }
 
@@ -140,28 +124,17 @@ fn header_turn(length: u64, capacity: u64, step: vhdx_pieces_header::Step) -> St
     ensures { result ≡ headed length capacity step }
 {
     match step {
-        vhdx_pieces_header::Step::Read(stage) => Step::Read(Planner {
+        ControlFlow::Continue(stage) => ControlFlow::Continue(Planner {
             context: Context {
                 length,
                 capacity,
-                log: Extent {
-                    offset: 0,
-                    length: 0,
-                },
-                guid: field::Guid { low: 0, high: 0 },
+                log: extent::nowhere(),
+                guid: Guid::ZERO,
             },
             phase: Phase::Header(stage),
         }),
-        vhdx_pieces_header::Step::Ended(answer) => with_answer(length, capacity, answer),
-    }
-}
-
-fn with_answer(length: u64, capacity: u64, answer: Answer) -> Step
-    ensures { result ≡ answered length capacity answer }
-{
-    match answer {
-        Answer::Refused(number) => Step::Ended(Outcome::Refused(number)),
-        Answer::Current(header) => with_header(length, capacity, header),
+        ControlFlow::Break(Ok(header)) => with_header(length, capacity, header),
+        ControlFlow::Break(Err(refusal)) => ControlFlow::Break(Err(refusal)),
     }
 }
 
@@ -169,22 +142,19 @@ fn with_answer(length: u64, capacity: u64, answer: Answer) -> Step
 fn with_header(length: u64, capacity: u64, header: Header) -> Step
     ensures { result ≡ with_header length capacity header }
 {
-    let guid = header.log_guid;
     let log = Extent {
         offset: header.log_offset,
         length: header.log_length,
     };
-    if (header.log_length < 4294967296)
-        & extent::is_inside(header.log_offset, header.log_length, length)
-    {
+    if log.length < 4294967296 && extent::is_in_bounds(log, length) {
         with_log(Context {
             length,
             capacity,
             log,
-            guid,
+            guid: header.log_guid,
         })
     } else {
-        Step::Ended(Outcome::Refused(4))
+        ControlFlow::Break(Err(Refusal::HeaderField))
     }
 }
 
@@ -192,21 +162,27 @@ fn with_log(context: Context) -> Step
     requires { context.log.length < 4294967296 }
     ensures { result ≡ with_log context }
 {
-    let guid = context.guid;
-    let log = context.log;
-    if (guid.low == 0) & (guid.high == 0) {
-        if decide::is_within(context.length, context.capacity) {
-            return Step::Ended(Outcome::Apply(Order {
-                length: context.length,
-                count: 0,
-                log,
-                start: 0,
-                left: 0,
-            }));
-        }
-        return Step::Ended(Outcome::Refused(8));
+    if context.guid == Guid::ZERO {
+        return ControlFlow::Break(without_log(context));
     }
-    scan_turn(context, vhdx_pieces_scan::start(sectors(log)))
+    scan_turn(context, vhdx_pieces_scan::start(sectors(context.log)))
+}
+
+// Without a log nothing is to write and nothing grows.
+fn without_log(context: Context) -> Result<Order, Refusal>
+    ensures { result ≡ without_log context }
+{
+    if decide::is_within(context.length, context.capacity) {
+        Ok(Order {
+            length: context.length,
+            count: 0,
+            log: context.log,
+            start: 0,
+            left: 0,
+        })
+    } else {
+        Err(Refusal::FinalLength)
+    }
 }
 
 // How many sectors a log has.
@@ -221,25 +197,24 @@ fn scan_turn(context: Context, step: vhdx_pieces_scan::Step) -> Step
     ensures { result ≡ scanned context step }
 {
     match step {
-        vhdx_pieces_scan::Step::Sector(s) => Step::Read(Planner {
+        ControlFlow::Continue(s) => ControlFlow::Continue(Planner {
             context,
             phase: Phase::Scan(s),
         }),
-        vhdx_pieces_scan::Step::Ended(found) => seek(context, found),
+        ControlFlow::Break(found) => seek(context, found),
     }
 }
 
 // That a sequence starts in the log and has no more entries than the log has sectors holds of a log that does not change.
-fn seek(context: Context, found: Found) -> Step
+fn seek(context: Context, found: Option<Sequence>) -> Step
     requires { context.log.length < 4294967296 }
     ensures { result ≡ sought context found }
 {
     match found {
-        Found::Nothing => Step::Ended(Outcome::Refused(5)),
-        Found::At(q) => {
-            let log = context.log;
-            let n = sectors(log);
-            if (q.start < n) & (q.more < n as u64) {
+        None => ControlFlow::Break(Err(Refusal::NoLogSequence)),
+        Some(q) => {
+            let n = sectors(context.log);
+            if q.start < n && q.more < n as u64 {
                 survey_turn(
                     context,
                     q,
@@ -252,7 +227,7 @@ fn seek(context: Context, found: Found) -> Step
                     ),
                 )
             } else {
-                Step::Ended(Outcome::Refused(5))
+                ControlFlow::Break(Err(Refusal::NoLogSequence))
             }
         }
     }
@@ -263,38 +238,37 @@ fn survey_turn(context: Context, found: Sequence, step: vhdx_pieces_survey::Step
     ensures { result ≡ toured context found step }
 {
     match step {
-        vhdx_pieces_survey::Step::Sector(tour) => Step::Read(Planner {
+        ControlFlow::Continue(tour) => ControlFlow::Continue(Planner {
             context,
             phase: Phase::Survey(Surveying { found, tour }),
         }),
-        vhdx_pieces_survey::Step::Broken => Step::Ended(Outcome::Refused(5)),
-        vhdx_pieces_survey::Step::Ended(report) => Step::Ended(judged(context, found, report)),
+        ControlFlow::Break(Some(report)) => ControlFlow::Break(judged(context, found, report)),
+        ControlFlow::Break(None) => ControlFlow::Break(Err(Refusal::NoLogSequence)),
     }
 }
 
 // 6 to 8.
-fn judged(context: Context, found: Sequence, report: Report) -> Outcome
+fn judged(context: Context, found: Sequence, report: Report) -> Result<Order, Refusal>
     requires { found.more < sectors_of context.log }
     ensures { result ≡ judged_of context found report }
 {
-    let log = context.log;
     let all = report.found;
     if context.length < report.flushed {
-        return Outcome::Refused(6);
+        return Err(Refusal::ShorterThanFlushed);
     }
     if all.lies {
-        return Outcome::Refused(7);
+        return Err(Refusal::ForbiddenSector);
     }
-    let length = number::greater(context.length, number::greater(report.last, all.end));
+    let length = context.length.max(report.last).max(all.end);
     if decide::is_within(length, context.capacity) {
-        Outcome::Apply(Order {
+        Ok(Order {
             length,
             count: all.count,
-            log,
+            log: context.log,
             start: found.start,
             left: found.more + 1,
         })
     } else {
-        Outcome::Refused(8)
+        Err(Refusal::FinalLength)
     }
 }

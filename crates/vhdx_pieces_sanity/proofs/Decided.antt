@@ -1,9 +1,6 @@
 -- The test of a machine decides what a machine keeps to.
 -- Assumes nothing.
-use mathlib.Core.Bool.{Bool, true, false, cond}
-use Prim.Native.Nat.{ℕ, ◌≤◌, ◌<◌}
-use native.Mathlib.Omega.{arith}
-use lib.Dec.{eqb}
+use Prim.Native.Nat.{ℕ, ◌<◌}
 use Rattle.vhdx_sequence.specs.declared.lap.Place.{Place}
 use Rattle.vhdx_sequence.specs.declared.scan.Trace.{Trace}
 use Rattle.vhdx_sequence.specs.Scan.{Placed}
@@ -78,13 +75,6 @@ tour-standing t =
     means (both (less _ _) (both (less _ _) (both (less _ _) (most _ _))))
     (λ h. record { on = h.0; few = h.1.0; some = h.1.1.0; bounded = h.1.1.1 })
     (λ s. (s.on, (s.few, (s.some, s.bounded))))
-
-pub from-small : (k : ℕ) → from_of k ≤ 64
-from-small k = go (eqb k 0)
-  where
-    go : (b : Bool) → cond b 64 0 ≤ 64
-    go true = omega arith
-    go false = omega arith
 
 tour-opened : (t : Tour) → touring.Standing t → Decides (opened t) (touring.Opened t)
 unfolding opened

@@ -12,10 +12,11 @@ ghost use Rattle.vhdx_pieces_plan.specs.Planning.{sectors_of};
 ghost use Rattle.vhdx_pieces_sanity.specs.Sanity.{orderly, sane};
 
 use vhdx_log::decide;
-use vhdx_pieces::Machine;
+use vhdx_pieces::{Doing, Machine};
 use vhdx_pieces_plan::Order;
-use vhdx_pieces_walk::{Bounds, Walker};
+use vhdx_pieces_walk::Bounds;
 
+#[tactic(auto, unfolding(crate::specs::Sanity::sane))]
 pub fn is_sane(m: Machine) -> bool
     ensures { result ≡ sane m }
 {
@@ -23,45 +24,38 @@ pub fn is_sane(m: Machine) -> bool
         Machine::Planning(p) => planner::is_sane(p),
         Machine::Growing(o) => is_orderly(o),
         Machine::Reading(d) => {
-            let o = d.order;
-            let w = d.walker;
-            let stage = w.stage;
-            is_orderly(o) & (walker::wants_sector(bounds(o), w, stage) & is_on(o, w))
+            is_orderly(d.order) && walker::wants_sector(bounds(d.order), d.walker) && is_on_log(d)
         }
         Machine::Writing(d) => {
-            let o = d.order;
-            let w = d.walker;
-            let stage = w.stage;
-            is_orderly(o) & (walker::writes_sector(bounds(o), w, stage) & is_on(o, w))
+            is_orderly(d.order) && walker::writes_sector(bounds(d.order), d.walker) && is_on_log(d)
         }
     }
 }
 
+#[tactic(auto, unfolding(crate::specs::Sanity::orderly))]
 fn is_orderly(o: Order) -> bool
     ensures { result ≡ orderly o }
 {
-    let log = o.log;
-    let n = vhdx_pieces_plan::sectors(log);
+    let n = vhdx_pieces_plan::sectors(o.log);
     decide::is_within(o.length, o.length)
-        & ((log.length < 4294967296)
-            & (extent::is_inside(log.offset, log.length, o.length)
-                & ((o.left <= n as u64) & ((o.left == 0) | (o.start < n)))))
+        && o.log.length < 4294967296
+        && extent::is_in_bounds(o.log, o.length)
+        && o.left <= n as u64
+        && (o.left == 0 || o.start < n)
 }
 
 fn bounds(o: Order) -> Bounds
     ensures { result ≡ bounds_of o }
 {
-    let log = o.log;
     Bounds {
-        log,
+        log: o.log,
         limit: o.length,
     }
 }
 
-fn is_on(o: Order, w: Walker) -> bool
-    ensures { result ≡ nat_eq w.pos.len (sectors_of o.log) }
+// The walker is on the log's ring.
+fn is_on_log(d: Doing) -> bool
+    ensures { result ≡ nat_eq d.walker.pos.len (sectors_of d.order.log) }
 {
-    let log = o.log;
-    let pos = w.pos;
-    pos.len == vhdx_pieces_plan::sectors(log)
+    d.walker.pos.len == vhdx_pieces_plan::sectors(d.order.log)
 }

@@ -7,5 +7,5 @@ use vhdx_entry::ring::RingPos;
 pub fn is_standing(pos: RingPos, left: u64) -> bool
     ensures { result ≡ standing pos left }
 {
-    (pos.at < pos.len) & ((pos.len < 1048576) & ((0 < left) & (left <= pos.len as u64)))
+    pos.at < pos.len && pos.len < 1048576 && 0 < left && left <= pos.len as u64
 }

@@ -9,15 +9,15 @@ use lib.Dec.{ltb}
 use borrow.Author.Tests.{ltb-true}
 use Rattle.field.specs.declared.Guid.{Guid}
 use Rattle.vhdx_sequence.specs.Scan.{State, state_of, fresh, goes_on}
-use Rattle.vhdx_pieces_entry.specs.declared.Progress.{Progress}
-use Rattle.vhdx_pieces_entry.specs.declared.Progress.TheVariants.{More, Valid, Empty}
+use Rattle.std.specs.Prelude.{None, Some}
+use Rattle.std.specs.declared.ops.ControlFlow.TheVariants.{Continue, Break}
+use Rattle.vhdx_pieces_entry.specs.Pass.{Progress}
 use Rattle.vhdx_pieces_entry.specs.Pass as pass
 use Rattle.vhdx_pieces_entry.proofs.Laws.{chosen, falls}
 use Rattle.vhdx_pieces_entry.proofs.Keeping.{kept-first, kept-further, Read, read_first, read-further}
 use Rattle.vhdx_pieces_scan.specs.declared.Stage.{Stage}
 use Rattle.vhdx_pieces_scan.specs.declared.Stage.TheVariants.{First, Inside, Tail}
-use Rattle.vhdx_pieces_scan.specs.declared.Step.{Step}
-use Rattle.vhdx_pieces_scan.specs.Scanning.{place_at, trace_of, resumed, progressed, step_in, step_of, Upright, Staged, Onward, left_at, left_of, ScanAdvances, ScanStarts}
+use Rattle.vhdx_pieces_scan.specs.Scanning.{Step, place_at, trace_of, resumed, progressed, step_in, step_of, Upright, Staged, Onward, left_at, left_of, ScanAdvances, ScanStarts}
 use Rattle.vhdx_pieces_scan.proofs.Turns.{run-behind}
 
 -- over n sectors it may be fed again, less than m being left
@@ -46,9 +46,9 @@ module _ (n : ℕ) (few : n < 1048576) where
 
     -- with k sectors read of what starts at the place
     progresses : (k : ℕ) (p : Progress) → k < n → pass.Kept n p → Read (k + 1) p → Below n ((n + n - (u + 1)) * (n + 1) + (n + 1 - k)) (progressed n u st p)
-    progresses k (More x) l h r = ((record { upright = upright u st behind laps; staged = h }, refl), omega (arith, h.short))
-    progresses k (Valid e) l h r = ((record { upright = upright u st behind laps; staged = h }, refl), omega arith)
-    progresses k Empty l h r = moves 1 st (n + 1 - k) (omega arith) (omega arith) behind
+    progresses k (Continue x) l h r = ((record { upright = upright u st behind laps; staged = h }, refl), omega (arith, h.short))
+    progresses k (Break (Some e)) l h r = ((record { upright = upright u st behind laps; staged = h }, refl), omega arith)
+    progresses k (Break None) l h r = moves 1 st (n + 1 - k) (omega arith) (omega arith) behind
 
     steps : (guid : Guid) (stage : Stage) (p : List ℕ) → Staged n stage → Below n (left_at n u stage) (step_in guid n u st stage p)
     steps guid First p h =

@@ -8,16 +8,12 @@ use native.Mathlib.Nat.{mod-lt, mod-add-mod, zero-mod}
 use lib.Dec.{ltb, eqb}
 use borrow.Author.Tests.{lt-ltb, le-ltb}
 use Rattle.vhdx_entry.specs.declared.Entry.{Entry}
-use Rattle.vhdx_sequence.specs.declared.Found.{Found}
 use Rattle.vhdx_sequence.specs.declared.lap.Place.{Place}
 use Rattle.vhdx_sequence.specs.declared.scan.Trace.{Trace}
-use Rattle.vhdx_sequence.specs.Sequence.{sequence_of}
 use Rattle.vhdx_sequence.specs.Scan.{Placed, moved, State, state_of, fresh, run_from, goes_on, Taking}
 use Rattle.vhdx_pieces_scan.specs.declared.Stage.TheVariants.{First}
-use Rattle.vhdx_pieces_scan.specs.declared.Step.{Step}
-use Rattle.vhdx_pieces_scan.specs.declared.Step.TheVariants.{Sector, Ended}
-use Rattle.vhdx_pieces_scan.specs.Scanning.{found_of, scanner_at, resumed, Upright}
-use Rattle.vhdx_pieces_scan.proofs.Told.{found-is}
+use Rattle.std.specs.declared.ops.ControlFlow.TheVariants.{Continue, Break}
+use Rattle.vhdx_pieces_scan.specs.Scanning.{Step, scanner_at, resumed, Upright}
 
 -- ---- places
 
@@ -38,20 +34,17 @@ run-behind u st number h = go (eqb u st.next && eqb number (st.number + 1))
 -- ---- the next place
 
 module _ (n u : ℕ) (st : State) where
-  pub goes : goes_on n u st ≡ true → u < n + n → Sector (scanner_at n u st First) ≡ resumed n u st
+  pub goes : goes_on n u st ≡ true → u < n + n → Continue (scanner_at n u st First) ≡ resumed n u st
   unfolding resumed
-  goes g l = sym (ap₂ (λ (a b : Bool). cond (a && b) (Sector (scanner_at n u st First)) (Ended (found_of st.best))) g (lt-ltb u (n + n) l))
+  goes g l = sym (ap₂ (λ (a b : Bool). cond (a && b) (Continue (scanner_at n u st First)) (Break st.best)) g (lt-ltb u (n + n) l))
 
-  pub laps-done : goes_on n u st ≡ true → n + n ≤ u → Ended (found_of st.best) ≡ resumed n u st
+  pub laps-done : goes_on n u st ≡ true → n + n ≤ u → Break st.best ≡ resumed n u st
   unfolding resumed
-  laps-done g l = sym (ap₂ (λ (a b : Bool). cond (a && b) (Sector (scanner_at n u st First)) (Ended (found_of st.best))) g (le-ltb u (n + n) l))
+  laps-done g l = sym (ap₂ (λ (a b : Bool). cond (a && b) (Continue (scanner_at n u st First)) (Break st.best)) g (le-ltb u (n + n) l))
 
-  pub stays : goes_on n u st ≡ false → Ended (found_of st.best) ≡ resumed n u st
+  pub stays : goes_on n u st ≡ false → Break st.best ≡ resumed n u st
   unfolding resumed
-  stays g = sym (ap (λ (a : Bool). cond (a && ltb u (n + n)) (Sector (scanner_at n u st First)) (Ended (found_of st.best))) g)
-
-pub ended_is : (q : Found) → Ended q ≡ Ended (found_of (sequence_of q))
-ended_is q = ap {B = Step} Ended (found-is q)
+  stays g = sym (ap (λ (a : Bool). cond (a && ltb u (n + n)) (Continue (scanner_at n u st First)) (Break st.best)) g)
 
 -- an answer of `resume` at a moved place
 pub resumed-at : (p q : Place) (by : ℕ) (st st₂ : State) {r : Step} → q ≡ moved p by → st₂ ≡ st

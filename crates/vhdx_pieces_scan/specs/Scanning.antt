@@ -1,39 +1,35 @@
 -- The scan for the active log sequence, in pieces: what a scanner wants, and what it does with it. A trace and a place are told
 -- by the state that they stand for: `trace_of`, `place_at`.
 -- Assumes nothing.
-use Rattle.std.specs.Prelude.{cond, ◌&&◌, List, ◌≡◌, ℕ, ◌+◌, ◌-◌, ◌*◌, ◌%◌, ◌^◌, ◌≤◌, ◌<◌, nat_lt, length}
-use Rattle.std.proofs.Math.Option.{Option, none, some}
+use Rattle.std.specs.Prelude.{cond, ◌&&◌, List, Option, None, Some, ◌≡◌, ℕ, ◌+◌, ◌-◌, ◌*◌, ◌%◌, ◌^◌, ◌≤◌, ◌<◌, nat_lt, length}
+use Rattle.std.specs.declared.ops.ControlFlow.{ControlFlow}
+use Rattle.std.specs.declared.ops.ControlFlow.TheVariants.{Continue, Break}
 use Rattle.field.specs.declared.Guid.{Guid}
 use Rattle.vhdx_entry.specs.declared.Entry.{Entry}
 use Rattle.vhdx_entry.specs.Ring.{sector_count, sector_at}
 use Rattle.vhdx_entry.specs.Entry.{signature_rule, sequence_number_of}
 use Rattle.vhdx_sequence.specs.declared.Sequence.{Sequence}
-use Rattle.vhdx_sequence.specs.declared.Found.{Found}
-use Rattle.vhdx_sequence.specs.declared.Found.TheVariants as found
 use Rattle.vhdx_sequence.specs.declared.lap.Place.{Place}
 use Rattle.vhdx_sequence.specs.declared.scan.Trace.{Trace}
-use Rattle.vhdx_sequence.specs.Sequence.{sequence_of, active_sequence}
+use Rattle.vhdx_sequence.specs.Sequence.{active_sequence}
 use Rattle.vhdx_sequence.specs.Scan.{Placed, State, state_of, fresh, run_from, taken_by, goes_on}
-use Rattle.vhdx_pieces_entry.specs.declared.Progress.{Progress}
-use Rattle.vhdx_pieces_entry.specs.declared.Progress.TheVariants.{More, Valid, Empty}
+use Rattle.vhdx_pieces_entry.specs.Pass.{Progress}
 use Rattle.vhdx_pieces_entry.specs.Pass as pass
 use Rattle.vhdx_pieces_scan.specs.declared.Stage.{Stage}
 use Rattle.vhdx_pieces_scan.specs.declared.Stage.TheVariants.{First, Inside, Tail}
 use Rattle.vhdx_pieces_scan.specs.declared.Scanner.{Scanner}
-use Rattle.vhdx_pieces_scan.specs.declared.Step.{Step}
-use Rattle.vhdx_pieces_scan.specs.declared.Step.TheVariants.{Sector, Ended}
+
+-- a sector is wanted, or the scan has ended
+abbrev pub Step : Type 0
+Step = ControlFlow (Option Sequence) Scanner
 
 -- place u on the way over a ring of n sectors
 abbrev pub place_at : ℕ → ℕ → Place
 place_at n u = record { pos = record { at = u % n; len = n }; count = u }
 
-abbrev pub found_of : Option Sequence → Found
-found_of none = found.Nothing
-found_of (some q) = found.At q
-
 -- the trace of a state
 abbrev pub trace_of : ℕ → State → Trace
-trace_of n st = record { start = place_at n st.start; next = st.next; number = st.number; best = found_of st.best }
+trace_of n st = record { start = place_at n st.start; next = st.next; number = st.number; best = st.best }
 
 abbrev pub scanner_at : ℕ → ℕ → State → Stage → Scanner
 scanner_at n u st stage = record { trace = trace_of n st; place = place_at n u; stage = stage }
@@ -49,12 +45,12 @@ wanted_of s = wanted_in s.place.pos.len s.place.pos.at s.stage
 
 -- at the next place, if the scan goes on
 unfoldable pub resumed : ℕ → ℕ → State → Step
-resumed n u st = cond (goes_on n u st && nat_lt u (n + n)) (Sector (scanner_at n u st First)) (Ended (found_of st.best))
+resumed n u st = cond (goes_on n u st && nat_lt u (n + n)) (Continue (scanner_at n u st First)) (Break st.best)
 
 abbrev pub progressed : ℕ → ℕ → State → Progress → Step
-progressed n u st (More x) = Sector (scanner_at n u st (Inside x))
-progressed n u st (Valid e) = Sector (scanner_at n u st (Tail e))
-progressed n u st Empty = resumed n (u + 1) st
+progressed n u st (Continue x) = Continue (scanner_at n u st (Inside x))
+progressed n u st (Break (Some e)) = Continue (scanner_at n u st (Tail e))
+progressed n u st (Break None) = resumed n (u + 1) st
 
 abbrev pub taking : ℕ → ℕ → State → Entry → List ℕ → Step
 taking n u st e s = resumed n (u + e.size) (taken_by n u (run_from u st e.number) st e (signature_rule s) (sequence_number_of s))
@@ -87,8 +83,8 @@ pub record Sane (s : Scanner) : Type 0 where
 
 -- it may be fed again, over the same number of sectors
 abbrev pub Onward : ℕ → Step → Type 0
-Onward n (Sector s) = Sane s × (s.place.pos.len ≡ n)
-Onward n (Ended q) = Unit {0}
+Onward n (Continue s) = Sane s × (s.place.pos.len ≡ n)
+Onward n (Break q) = Unit {0}
 
 -- ---- how many sectors it still asks for, at most
 
@@ -103,8 +99,8 @@ abbrev pub left_at : ℕ → ℕ → Stage → ℕ
 left_at n u stage = (n + n - (u + 1)) * (n + 1) + left_in n stage
 
 abbrev pub left_of : Step → ℕ
-left_of (Sector s) = left_at s.place.pos.len s.place.count s.stage
-left_of (Ended q) = 0
+left_of (Continue s) = left_at s.place.pos.len s.place.count s.stage
+left_of (Break q) = 0
 
 -- ---- the theorems
 
@@ -112,7 +108,7 @@ left_of (Ended q) = 0
 abbrev pub ScanAdvances : Type 0
 ScanAdvances =
     (guid : Guid) (s : Scanner) (p : List ℕ) → Sane s
-    → Onward s.place.pos.len (step_of guid s p) × (left_of (step_of guid s p) < left_of (Sector s))
+    → Onward s.place.pos.len (step_of guid s p) × (left_of (step_of guid s p) < left_of (Continue s))
 
 -- at the start, over n sectors
 abbrev pub ScanStarts : Type 0
@@ -120,8 +116,8 @@ ScanStarts = (n : ℕ) → n < 1048576 → Onward n (resumed n 0 fresh) × (left
 
 -- fed the sectors of a log that it wants, it ends with this sequence
 pub data Scans (log : List ℕ) (guid : Guid) : Step → Option Sequence → Type 0 where
-  stop : {q : Found} → Scans log guid (Ended q) (sequence_of q)
-  next : {s : Scanner} {o : Option Sequence} → wanted_of s < sector_count log → Scans log guid (step_of guid s (sector_at log (wanted_of s))) o → Scans log guid (Sector s) o
+  stop : {q : Option Sequence} → Scans log guid (Break q) q
+  next : {s : Scanner} {o : Option Sequence} → wanted_of s < sector_count log → Scans log guid (step_of guid s (sector_at log (wanted_of s))) o → Scans log guid (Continue s) o
 
 abbrev pub ScansActive : Type 0
 ScansActive =

@@ -2,14 +2,15 @@
 // and handed back moved. It is `vhdx_sequence::active`'s loop, opened at each sector that it reads.
 #![tactic(auto)]
 
-ghost use Rattle.std.specs.Prelude.{◌≡◌, ◌≤◌, ◌<◌, length};
+ghost use Rattle.std.specs.Prelude.{◌≡◌, ◌≤◌, ◌<◌};
+ghost use Rattle.std.specs.declared.ops.ControlFlow.TheVariants.{Continue};
 ghost use Rattle.vhdx_sequence.specs.Scan.{Placed, state_of, fresh};
 ghost use Rattle.vhdx_pieces_scan.specs.Scanning.{Upright, Sane, Onward, scanner_at, wanted_of, resumed, progressed, taking, step_of};
 
+use std::ops::ControlFlow;
 use vhdx_entry::Entry;
-use vhdx_entry::ring::RingPos;
 use vhdx_pieces_entry::{Progress, Reading};
-use vhdx_sequence::Found;
+use vhdx_sequence::Sequence;
 use vhdx_sequence::lap::Place;
 use vhdx_sequence::scan::Trace;
 
@@ -28,12 +29,8 @@ pub struct Scanner {
     pub stage: Stage,
 }
 
-#[derive(Clone, Copy)]
-pub enum Step {
-    // a sector is wanted
-    Sector(Scanner),
-    Ended(Found),
-}
+// A sector is wanted, or the scan has ended.
+pub type Step = ControlFlow<Option<Sequence>, Scanner>;
 
 // Over a log of n sectors.
 pub fn start(n: usize) -> Step
@@ -49,33 +46,28 @@ pub fn wanted(s: Scanner) -> usize
     requires { Sane s }
     ensures { (result ≡ wanted_of s) × (result < s.place.pos.len) }
 {
-    let stage = s.stage;
-    let pos = s.place.pos;
-    match stage {
-        Stage::First => pos.at,
-        Stage::Inside(x) => pos.advance(x.read).at,
+    match s.stage {
+        Stage::First => s.place.pos.at,
+        Stage::Inside(x) => s.place.pos.advance(x.read).at,
         Stage::Tail(e) => e.tail,
     }
 }
 
 // Fed that sector.
-pub fn next(s: Scanner, guid: field::Guid, sector: &[u8]) -> Step
-    requires { Sane s × (length sector.now ≡ 4096) }
+pub fn next(s: Scanner, guid: field::Guid, sector: &[u8; 4096]) -> Step
+    requires { Sane s }
     ensures { (result ≡ step_of guid s sector.now) × Onward s.place.pos.len result }
 {
-    let stage = s.stage;
-    let trace = s.trace;
-    let place = s.place;
-    let n = place.pos.len;
-    match stage {
-        Stage::First => progress(trace, place, vhdx_pieces_entry::first(sector, guid, n)),
-        Stage::Inside(x) => progress(trace, place, vhdx_pieces_entry::further(x, sector, n)),
-        Stage::Tail(e) => take(trace, place, e, sector),
+    let n = s.place.pos.len;
+    match s.stage {
+        Stage::First => progress(s.trace, s.place, vhdx_pieces_entry::first(sector, guid, n)),
+        Stage::Inside(x) => { progress(s.trace, s.place, vhdx_pieces_entry::further(x, sector, n)) }
+        Stage::Tail(e) => take(s.trace, s.place, e, sector),
     }
 }
 
-fn take(trace: Trace, place: Place, e: Entry, sector: &[u8]) -> Step
-    requires { Upright trace place × (e.size ≤ place.pos.len) × (e.tail < place.pos.len) × (length sector.now ≡ 4096) }
+fn take(trace: Trace, place: Place, e: Entry, sector: &[u8; 4096]) -> Step
+    requires { Upright trace place × (e.size ≤ place.pos.len) × (e.tail < place.pos.len) }
     ensures { result ≡ taking place.pos.len place.count (state_of trace) e sector.now }
 {
     let after = trace.take_by(sector, place, e);
@@ -88,9 +80,9 @@ fn progress(trace: Trace, place: Place, p: Progress) -> Step
     ensures { result ≡ progressed place.pos.len place.count (state_of trace) p }
 {
     match p {
-        Progress::More(x) => at(trace, place, Stage::Inside(x)),
-        Progress::Valid(e) => at(trace, place, Stage::Tail(e)),
-        Progress::Empty => resume(trace, place.advance(1)),
+        ControlFlow::Continue(x) => at(trace, place, Stage::Inside(x)),
+        ControlFlow::Break(Some(e)) => at(trace, place, Stage::Tail(e)),
+        ControlFlow::Break(None) => resume(trace, place.advance(1)),
     }
 }
 
@@ -99,21 +91,17 @@ fn resume(trace: Trace, place: Place) -> Step
     requires { (place.pos.len < 1048576) × Placed place.pos.len place × Placed place.pos.len trace.start }
     ensures { result ≡ resumed place.pos.len place.count (state_of trace) }
 {
-    let best = trace.best;
-    let n = place.pos.len;
-    if trace.goes_on(place) {
-        if place.count < n + n {
-            return at(trace, place, Stage::First);
-        }
+    if trace.goes_on(place) && place.count < place.pos.len + place.pos.len {
+        return at(trace, place, Stage::First);
     }
-    Step::Ended(best)
+    ControlFlow::Break(trace.best)
 }
 
 fn at(trace: Trace, place: Place, stage: Stage) -> Step
     requires { Placed place.pos.len place × Placed place.pos.len trace.start }
-    ensures { result ≡ Step.Sector (scanner_at place.pos.len place.count (state_of trace) stage) }
+    ensures { result ≡ Continue (scanner_at place.pos.len place.count (state_of trace) stage) }
 {
-    Step::Sector(Scanner {
+    ControlFlow::Continue(Scanner {
         trace,
         place,
         stage,

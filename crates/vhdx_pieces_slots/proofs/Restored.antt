@@ -3,8 +3,7 @@
 use mathlib.Core.Path.{◌≡◌, refl}
 use Prim.Native.Nat.{ℕ}
 use native.Mathlib.Nat.{mod-eq_of_lt}
-use Rattle.vhdx_sequence.specs.declared.Found.{Found}
-use Rattle.vhdx_sequence.specs.declared.Found.TheVariants as best
+use Rattle.vhdx_sequence.specs.declared.Sequence.{Sequence}
 use Rattle.vhdx_sequence.specs.declared.lap.Place.{Place}
 use Rattle.vhdx_pieces_header.specs.declared.Stage as header
 use Rattle.vhdx_pieces_header.specs.declared.Stage.TheVariants as header_stage
@@ -20,9 +19,10 @@ use Rattle.vhdx_pieces_walk.specs.declared.Stage.TheVariants as walk_stage
 use Rattle.vhdx_pieces.specs.declared.Doing.{Doing}
 use Rattle.vhdx_pieces.specs.declared.Machine.{Machine}
 use Rattle.vhdx_pieces.specs.declared.Machine.TheVariants.{Planning, Growing, Reading, Writing}
+use Rattle.std.specs.Prelude.{Option, None, Some}
 use Rattle.vhdx_slots.specs.Slots.{in_slots}
 use Rattle.vhdx_slots.proofs.Laws.{bit-read}
-use Rattle.vhdx_pieces_slots.specs.Slots.{zeros, context_in, header_in, header_from, best_in, stage_in, stage_from, scanner_in, scanner_from, tour_in, surveying_in, surveying_from, phase_in, phase_from, planner_in, planner_from, order_in, turn_in, turn_from, walker_in, walker_from, doing_in, doing_from, numbers, machine_from}
+use Rattle.vhdx_pieces_slots.specs.Slots.{zeros, context_in, header_in, header_from, best_in, stage_in, stage_from, scanner_in, scanner_from, tour_in, surveying_in, surveying_from, phase_in, phase_from, planner_in, planner_from, order_in, held_in, turn_in, turn_from, walker_in, walker_from, doing_in, doing_from, numbers, machine_from}
 use Rattle.vhdx_pieces_slots.specs.Loading.{StageWords, PhaseWords, TurnWords, Words}
 
 abbrev Restored : Machine → Type 0
@@ -37,18 +37,18 @@ header-restored c header_stage.Identifier = refl
 header-restored c header_stage.First = refl
 header-restored c (header_stage.Second x) = rw (bit-read x.valid, bit-read x.rules)
 
-abbrev scanning : Context → Place → Place → ℕ → ℕ → Found → scan.Stage → Machine
+abbrev scanning : Context → Place → Place → ℕ → ℕ → Option Sequence → scan.Stage → Machine
 scanning c place start next number best stage =
     planning c (phase.Scan (record { trace = record { start = start; next = next; number = number; best = best }; place = place; stage = stage }))
 
-scan-restored : (c : Context) (place start : Place) (next number : ℕ) (q : Found) (s : scan.Stage) → StageWords s → Restored (scanning c place start next number q s)
+scan-restored : (c : Context) (place start : Place) (next number : ℕ) (q : Option Sequence) (s : scan.Stage) → StageWords s → Restored (scanning c place start next number q s)
 unfolding zeros in_slots context_in best_in stage_in stage_from scanner_in scanner_from phase_in phase_from planner_in planner_from numbers machine_from
-scan-restored c place start next number best.Nothing scan_stage.First w = refl
-scan-restored c place start next number best.Nothing (scan_stage.Inside x) w = rw (mod-eq_of_lt w.0, mod-eq_of_lt w.1)
-scan-restored c place start next number best.Nothing (scan_stage.Tail e) w = refl
-scan-restored c place start next number (best.At q) scan_stage.First w = refl
-scan-restored c place start next number (best.At q) (scan_stage.Inside x) w = rw (mod-eq_of_lt w.0, mod-eq_of_lt w.1)
-scan-restored c place start next number (best.At q) (scan_stage.Tail e) w = refl
+scan-restored c place start next number None scan_stage.First w = refl
+scan-restored c place start next number None (scan_stage.Inside x) w = rw (mod-eq_of_lt w.0, mod-eq_of_lt w.1)
+scan-restored c place start next number None (scan_stage.Tail e) w = refl
+scan-restored c place start next number (Some q) scan_stage.First w = refl
+scan-restored c place start next number (Some q) (scan_stage.Inside x) w = rw (mod-eq_of_lt w.0, mod-eq_of_lt w.1)
+scan-restored c place start next number (Some q) (scan_stage.Tail e) w = refl
 
 survey-restored : (c : Context) (s : Surveying) → Restored (planning c (phase.Survey s))
 unfolding zeros in_slots context_in tour_in surveying_in surveying_from phase_in phase_from planner_in planner_from numbers machine_from
@@ -74,7 +74,7 @@ doing d s =
     }
 
 doing-restored : (d : Doing) (s : walk.Stage) → TurnWords s → Restored (Reading (doing d s)) × Restored (Writing (doing d s))
-unfolding zeros in_slots order_in turn_in turn_from walker_in walker_from doing_in doing_from numbers machine_from
+unfolding zeros in_slots order_in held_in turn_in turn_from walker_in walker_from doing_in doing_from numbers machine_from
 doing-restored d walk_stage.Header w = (refl, refl)
 doing-restored d walk_stage.Descriptors w = (refl, refl)
 doing-restored d (walk_stage.Data h) w = (rw (mod-eq_of_lt w), rw (mod-eq_of_lt w))

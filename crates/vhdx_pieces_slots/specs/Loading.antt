@@ -1,6 +1,6 @@
 -- A machine that is read back from its numbers; other numbers are no machine's.
 -- Assumes nothing.
-use Rattle.std.specs.Prelude.{Bool, cond, ◌&&◌, List, ◌≡◌, ℕ, ◌<◌, nat_eq, length, get_or}
+use Rattle.std.specs.Prelude.{Bool, cond, ◌&&◌, List, ◌≡◌, ℕ, ◌<◌, nat_eq, length, get_or, Option, None, Some}
 use Rattle.decision.specs.Bounded.{every}
 use Rattle.vhdx_pieces_scan.specs.declared.Stage as scan
 use Rattle.vhdx_pieces_scan.specs.declared.Stage.TheVariants as scan_stage
@@ -11,8 +11,6 @@ use Rattle.vhdx_pieces_walk.specs.declared.Stage.TheVariants as walk_stage
 use Rattle.vhdx_pieces.specs.declared.Machine.{Machine}
 use Rattle.vhdx_pieces.specs.declared.Machine.TheVariants.{Planning, Growing, Reading, Writing}
 use Rattle.vhdx_pieces.specs.Machines.{Sane}
-use Rattle.vhdx_pieces_slots.specs.declared.Loaded.{Loaded}
-use Rattle.vhdx_pieces_slots.specs.declared.Loaded.TheVariants.{Known, Unknown}
 use Rattle.vhdx_pieces_slots.specs.Slots.{numbers, machine_from}
 use Rattle.vhdx_pieces_sanity.specs.Sanity.{sane}
 
@@ -24,19 +22,19 @@ same a b = every 64 (λ i. nat_eq (get_or a i 0) (get_or b i 0))
 unfoldable pub known : List ℕ → Bool
 known ns = sane (machine_from ns) && same (numbers (machine_from ns)) ns
 
-unfoldable pub loaded : List ℕ → Loaded
-loaded ns = cond (known ns) (Known (machine_from ns)) Unknown
+unfoldable pub loaded : List ℕ → Option Machine
+loaded ns = cond (known ns) (Some (machine_from ns)) None
 
 -- a machine that was loaded may be handed in
-abbrev pub Sound : Loaded → Type 0
-Sound (Known m) = Sane m
-Sound Unknown = Unit {0}
+abbrev pub Sound : Option Machine → Type 0
+Sound (Some m) = Sane m
+Sound None = Unit {0}
 
 -- ---- the laws
 
 -- what is loaded has these very numbers
 abbrev pub LoadsOwn : Type 0
-LoadsOwn = (ns : List ℕ) (m : Machine) → length ns ≡ 64 → loaded ns ≡ Known m → numbers m ≡ ns
+LoadsOwn = (ns : List ℕ) (m : Machine) → length ns ≡ 64 → loaded ns ≡ Some m → numbers m ≡ ns
 
 -- the numbers of 32 bits are such, as they are in every machine that the code makes
 
@@ -65,4 +63,4 @@ Words (Writing d) = TurnWords d.walker.stage
 
 -- and a machine is loaded from its own
 abbrev pub Restores : Type 0
-Restores = (m : Machine) → Sane m → Words m → loaded (numbers m) ≡ Known m
+Restores = (m : Machine) → Sane m → Words m → loaded (numbers m) ≡ Some m

@@ -27,10 +27,9 @@
 --   16 to 19  of data and sector: offset, leading, trailing, rank; of zeros: offset, length
 --
 -- Assumes nothing.
-use Rattle.std.specs.Prelude.{cond, not, List, [], ◌∷◌, ℕ, ◌%◌, nat_eq, get_or, replicate}
+use Rattle.std.specs.Prelude.{cond, not, List, [], ◌∷◌, ℕ, ◌%◌, nat_eq, get_or, replicate, Option, None, Some}
 use Rattle.vhdx_slots.specs.Slots.{bit, in_slots}
-use Rattle.vhdx_sequence.specs.declared.Found.{Found}
-use Rattle.vhdx_sequence.specs.declared.Found.TheVariants as best
+use Rattle.vhdx_sequence.specs.declared.Sequence.{Sequence}
 use Rattle.vhdx_pieces_header.specs.declared.Candidate.{Candidate}
 use Rattle.vhdx_pieces_header.specs.declared.Stage as header
 use Rattle.vhdx_pieces_header.specs.declared.Stage.TheVariants as header_stage
@@ -113,13 +112,13 @@ header_from slots =
 
 -- its scan
 
-unfoldable pub best_in : Found → List ℕ → List ℕ
-best_in (best.At q) slots = in_slots 16 (1 ∷ q.start ∷ q.more ∷ q.number ∷ []) slots
-best_in best.Nothing slots = slots
+unfoldable pub best_in : Option Sequence → List ℕ → List ℕ
+best_in (Some q) slots = in_slots 16 (1 ∷ q.start ∷ q.more ∷ q.number ∷ []) slots
+best_in None slots = slots
 
-abbrev pub best_from : List ℕ → Found
+abbrev pub best_from : List ℕ → Option Sequence
 best_from slots =
-    cond (nat_eq (get_or slots 16 0) 1) (best.At (record { start = get_or slots 17 0; more = get_or slots 18 0; number = get_or slots 19 0 })) best.Nothing
+    cond (nat_eq (get_or slots 16 0) 1) (Some (record { start = get_or slots 17 0; more = get_or slots 18 0; number = get_or slots 19 0 })) None
 
 unfoldable pub stage_in : scan.Stage → List ℕ → List ℕ
 stage_in scan_stage.First slots = in_slots 20 (1 ∷ []) slots
@@ -265,11 +264,15 @@ order_from slots =
 
 -- ---- an order that is being done
 
+-- of a data descriptor that was met
+unfoldable pub held_in : Held → List ℕ → List ℕ
+held_in d slots = in_slots 16 (d.offset ∷ d.leading ∷ d.trailing ∷ d.rank ∷ []) slots
+
 unfoldable pub turn_in : walk.Stage → List ℕ → List ℕ
 turn_in walk_stage.Header slots = in_slots 15 (1 ∷ []) slots
 turn_in walk_stage.Descriptors slots = in_slots 15 (2 ∷ []) slots
-turn_in (walk_stage.Data d) slots = in_slots 15 (3 ∷ d.offset ∷ d.leading ∷ d.trailing ∷ d.rank ∷ []) slots
-turn_in (walk_stage.Sector d) slots = in_slots 15 (4 ∷ d.offset ∷ d.leading ∷ d.trailing ∷ d.rank ∷ []) slots
+turn_in (walk_stage.Data d) slots = held_in d (in_slots 15 (3 ∷ []) slots)
+turn_in (walk_stage.Sector d) slots = held_in d (in_slots 15 (4 ∷ []) slots)
 turn_in (walk_stage.Zeros e) slots = in_slots 15 (5 ∷ e.offset ∷ e.length ∷ []) slots
 
 -- one of its numbers has 32 bits

@@ -7,25 +7,19 @@ mod writing;
 
 ghost use Rattle.std.specs.Prelude.{◌≡◌};
 ghost use Rattle.vhdx_pieces_slots.specs.Slots.{zeros, numbers};
-ghost use Rattle.vhdx_pieces_slots.specs.Loading.{same, loaded, Sound};
+ghost use Rattle.vhdx_pieces_slots.specs.Loading.{loaded, Sound};
 
 use vhdx_pieces::Machine;
 
-// What stands in an array of 64 numbers.
-#[derive(Clone, Copy)]
-pub enum Loaded {
-    Known(Machine),
-    // numbers that no machine has
-    Unknown,
-}
-
 // No machine.
+#[tactic(auto, unfolding(crate::specs::Slots::zeros))]
 pub fn clear(slots: &mut [u64; 64])
     ensures { slots.new ≡ zeros }
 {
     *slots = [0; 64];
 }
 
+#[tactic(auto, unfolding(crate::specs::Slots::numbers, vhdx_slots::specs::Slots::in_slots))]
 pub fn save(m: Machine, slots: &mut [u64; 64])
     ensures { slots.new ≡ numbers m }
 {
@@ -50,29 +44,13 @@ pub fn save(m: Machine, slots: &mut [u64; 64])
     }
 }
 
-// Read, tested, and written again: what is written must be what was read.
-pub fn load(slots: &[u64; 64]) -> Loaded
+// The machine whose numbers these are. Read, tested, and written again: what is written must be what was read.
+pub fn load(slots: &[u64; 64]) -> Option<Machine>
     ensures value { result ≡ loaded slots.now }
     ensures sound { Sound result }
 {
     let m = reading::machine(slots);
     let mut again = [0; 64];
     save(m, &mut again);
-    if vhdx_pieces_sanity::is_sane(m) & are_same(&again, slots) {
-        return Loaded::Known(m);
-    }
-    Loaded::Unknown
-}
-
-fn are_same(a: &[u64; 64], b: &[u64; 64]) -> bool
-    ensures { result ≡ same a.now b.now }
-{
-    let mut i = 0;
-    while i < 64 {
-        if a[i] != b[i] {
-            return false;
-        }
-        i += 1;
-    }
-    true
+    (vhdx_pieces_sanity::is_sane(m) && again == *slots).then_some(m)
 }

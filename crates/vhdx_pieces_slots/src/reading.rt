@@ -15,25 +15,23 @@ use vhdx_pieces_plan::{Context, Order, Phase, Planner, Surveying};
 use vhdx_pieces_scan::Scanner;
 use vhdx_pieces_survey::Tour;
 use vhdx_pieces_walk::{Held, Walker};
+use vhdx_sequence::Sequence;
 use vhdx_sequence::lap::Place;
 use vhdx_sequence::scan::Trace;
-use vhdx_sequence::{Found, Sequence};
 
+#[tactic(auto, unfolding(crate::specs::Slots::machine_from))]
 pub fn machine(slots: &[u64; 64]) -> Machine
     ensures { result ≡ machine_from slots.now }
 {
-    if slots[0] == 1 {
-        return Machine::Planning(planner(slots));
+    match slots[0] {
+        1 => Machine::Planning(planner(slots)),
+        2 => Machine::Growing(order(slots)),
+        3 => Machine::Reading(doing(slots)),
+        _ => Machine::Writing(doing(slots)),
     }
-    if slots[0] == 2 {
-        return Machine::Growing(order(slots));
-    }
-    if slots[0] == 3 {
-        return Machine::Reading(doing(slots));
-    }
-    Machine::Writing(doing(slots))
 }
 
+#[tactic(auto, unfolding(crate::specs::Slots::planner_from))]
 fn planner(slots: &[u64; 64]) -> Planner
     ensures { result ≡ planner_from slots.now }
 {
@@ -60,28 +58,26 @@ fn context(slots: &[u64; 64]) -> Context
     }
 }
 
+#[tactic(auto, unfolding(crate::specs::Slots::phase_from))]
 fn phase(slots: &[u64; 64]) -> Phase
     ensures { result ≡ phase_from slots.now }
 {
-    if slots[7] == 1 {
-        return Phase::Header(header(slots));
+    match slots[7] {
+        1 => Phase::Header(header(slots)),
+        2 => Phase::Scan(scanner(slots)),
+        _ => Phase::Survey(surveying(slots)),
     }
-    if slots[7] == 2 {
-        return Phase::Scan(scanner(slots));
-    }
-    Phase::Survey(surveying(slots))
 }
 
+#[tactic(auto, unfolding(crate::specs::Slots::header_from))]
 fn header(slots: &[u64; 64]) -> vhdx_pieces_header::Stage
     ensures { result ≡ header_from slots.now }
 {
-    if slots[8] == 1 {
-        return vhdx_pieces_header::Stage::Identifier;
+    match slots[8] {
+        1 => vhdx_pieces_header::Stage::Identifier,
+        2 => vhdx_pieces_header::Stage::First,
+        _ => vhdx_pieces_header::Stage::Second(candidate(slots)),
     }
-    if slots[8] == 2 {
-        return vhdx_pieces_header::Stage::First;
-    }
-    vhdx_pieces_header::Stage::Second(candidate(slots))
 }
 
 fn candidate(slots: &[u64; 64]) -> Candidate
@@ -103,6 +99,7 @@ fn candidate(slots: &[u64; 64]) -> Candidate
     }
 }
 
+#[tactic(auto, unfolding(crate::specs::Slots::scanner_from))]
 fn scanner(slots: &[u64; 64]) -> Scanner
     ensures { result ≡ scanner_from slots.now }
 {
@@ -130,33 +127,32 @@ fn scanner(slots: &[u64; 64]) -> Scanner
     }
 }
 
-fn best(slots: &[u64; 64]) -> Found
+fn best(slots: &[u64; 64]) -> Option<Sequence>
     ensures { result ≡ best_from slots.now }
 {
-    if slots[16] == 1 {
-        return Found::At(Sequence {
+    match slots[16] {
+        1 => Some(Sequence {
             start: slots[17] as usize,
             more: slots[18],
             number: slots[19],
-        });
+        }),
+        _ => None,
     }
-    Found::Nothing
 }
 
+#[tactic(auto, unfolding(crate::specs::Slots::stage_from))]
 fn stage(slots: &[u64; 64]) -> vhdx_pieces_scan::Stage
     ensures { result ≡ stage_from slots.now }
 {
-    if slots[20] == 1 {
-        return vhdx_pieces_scan::Stage::First;
+    match slots[20] {
+        1 => vhdx_pieces_scan::Stage::First,
+        2 => vhdx_pieces_scan::Stage::Inside(reading(slots)),
+        _ => vhdx_pieces_scan::Stage::Tail(Entry {
+            size: slots[21] as usize,
+            number: slots[22],
+            tail: slots[23] as usize,
+        }),
     }
-    if slots[20] == 2 {
-        return vhdx_pieces_scan::Stage::Inside(reading(slots));
-    }
-    vhdx_pieces_scan::Stage::Tail(Entry {
-        size: slots[21] as usize,
-        number: slots[22],
-        tail: slots[23] as usize,
-    })
 }
 
 fn reading(slots: &[u64; 64]) -> Reading
@@ -175,6 +171,7 @@ fn reading(slots: &[u64; 64]) -> Reading
     }
 }
 
+#[tactic(auto, unfolding(crate::specs::Slots::surveying_from))]
 fn surveying(slots: &[u64; 64]) -> Surveying
     ensures { result ≡ surveying_from slots.now }
 {
@@ -226,6 +223,7 @@ fn order(slots: &[u64; 64]) -> Order
     }
 }
 
+#[tactic(auto, unfolding(crate::specs::Slots::doing_from))]
 fn doing(slots: &[u64; 64]) -> Doing
     ensures { result ≡ doing_from slots.now }
 {
@@ -236,6 +234,7 @@ fn doing(slots: &[u64; 64]) -> Doing
     }
 }
 
+#[tactic(auto, unfolding(crate::specs::Slots::walker_from))]
 fn walker(slots: &[u64; 64]) -> Walker
     ensures { result ≡ walker_from slots.now }
 {
@@ -253,25 +252,20 @@ fn walker(slots: &[u64; 64]) -> Walker
     }
 }
 
+#[tactic(auto, unfolding(crate::specs::Slots::turn_from))]
 fn turn(slots: &[u64; 64]) -> vhdx_pieces_walk::Stage
     ensures { result ≡ turn_from slots.now }
 {
-    if slots[15] == 1 {
-        return vhdx_pieces_walk::Stage::Header;
+    match slots[15] {
+        1 => vhdx_pieces_walk::Stage::Header,
+        2 => vhdx_pieces_walk::Stage::Descriptors,
+        3 => vhdx_pieces_walk::Stage::Data(held(slots)),
+        4 => vhdx_pieces_walk::Stage::Sector(held(slots)),
+        _ => vhdx_pieces_walk::Stage::Zeros(Extent {
+            offset: slots[16],
+            length: slots[17],
+        }),
     }
-    if slots[15] == 2 {
-        return vhdx_pieces_walk::Stage::Descriptors;
-    }
-    if slots[15] == 3 {
-        return vhdx_pieces_walk::Stage::Data(held(slots));
-    }
-    if slots[15] == 4 {
-        return vhdx_pieces_walk::Stage::Sector(held(slots));
-    }
-    vhdx_pieces_walk::Stage::Zeros(Extent {
-        offset: slots[16],
-        length: slots[17],
-    })
 }
 
 fn held(slots: &[u64; 64]) -> Held

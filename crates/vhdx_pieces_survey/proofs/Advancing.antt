@@ -16,9 +16,8 @@ use Rattle.vhdx_log.specs.declared.survey.Survey.{Survey}
 use Rattle.vhdx_pieces_entry.specs.Pass.{from_of, places_in}
 use Rattle.vhdx_pieces_entry.proofs.Laws.{chosen, falls}
 use Rattle.vhdx_pieces_survey.specs.declared.Tour.{Tour}
-use Rattle.vhdx_pieces_survey.specs.declared.Step.{Step}
-use Rattle.vhdx_pieces_survey.specs.declared.Step.TheVariants.{Sector}
-use Rattle.vhdx_pieces_survey.specs.Touring.{at_header, opened, further, here, empty, fits, moved_on, passed, step_of, Standing, Opened, Sane, Onward, left_of, SurveyAdvances, SurveyStarts}
+use Rattle.std.specs.declared.ops.ControlFlow.TheVariants.{Continue}
+use Rattle.vhdx_pieces_survey.specs.Touring.{Step, at_header, opened, further, here, empty, fits, moved_on, passed, step_of, Standing, Opened, Sane, Onward, left_of, SurveyAdvances, SurveyStarts}
 
 none_from : (k : ℕ) → from_of (k + 1) ≡ 0
 none_from k = rw (add-one k, eqb-suc-zero k)
@@ -68,11 +67,11 @@ opened-is t s st f =
 abbrev Below : ℕ → ℕ → Step → Type 0
 Below n m r = Onward n r × (left_of r < m)
 
-moves : (t : Tour) (sv : Survey) → Opened t → t.read < t.pos.len → Below t.pos.len (left_of (Sector t)) (moved_on t (here t) sv)
+moves : (t : Tour) (sv : Survey) → Opened t → t.read < t.pos.len → Below t.pos.len (left_of (Continue t)) (moved_on t (here t) sv)
 unfolding moved_on
 moves t sv o r =
     let n = t.pos.len in
-    let P = Below n (left_of (Sector t)) in
+    let P = Below n (left_of (Continue t)) in
     chosen P (ltb (t.seen + here t) t.count) _ _
     (λ h. let s = further-sane t sv o (ltb-true _ _ h) in ((s, refl), omega (arith, s.short)))
     (λ _. chosen P (ltb 1 t.left) _ _
@@ -84,7 +83,7 @@ moves t sv o r =
 pub survey-advances : SurveyAdvances
 unfolding step_of passed
 survey-advances e t s h =
-    let P = Below t.pos.len (left_of (Sector t)) in
+    let P = Below t.pos.len (left_of (Continue t)) in
     chosen P (eqb t.read 0) _ _
     (λ z.
     let zero-read : t.read ≡ 0 = eqb-true _ _ z in

@@ -31,9 +31,9 @@ use Rattle.vhdx_pieces_entry.proofs.Split.{in-sector}
 use Rattle.vhdx_pieces_entry.proofs.Passing.{seen_at, begins-at, all_seen, fits_in, seen_next}
 use Rattle.vhdx_pieces_survey.specs.declared.Tour.{Tour}
 use Rattle.vhdx_pieces_survey.specs.declared.Report.{Report}
-use Rattle.vhdx_pieces_survey.specs.declared.Step.{Step}
-use Rattle.vhdx_pieces_survey.specs.declared.Step.TheVariants.{Sector, Ended, Broken}
-use Rattle.vhdx_pieces_survey.specs.Touring.{added_by, survey_in, at_header, empty, started, opened, further, moved_on, passed, fits, step_of, Surveys, stop, next, SurveysAll}
+use Rattle.std.specs.Prelude.{None, Some}
+use Rattle.std.specs.declared.ops.ControlFlow.TheVariants.{Continue, Break}
+use Rattle.vhdx_pieces_survey.specs.Touring.{Step, added_by, survey_in, at_header, empty, started, opened, further, moved_on, passed, fits, step_of, Surveys, stop, next, SurveysAll}
 
 -- ---- one descriptor
 
@@ -96,15 +96,15 @@ tour_in log s left j sv =
 -- behind an entry
 abbrev behind_entry : List ℕ → ℕ → ℕ → Survey → Step
 behind_entry log s left sv =
-    cond (ltb 1 left) (Sector (at_header (record { at = behind log s; len = sector_count log }) (left - 1) (flushed_file_offset (ring log s)) (last_file_offset (ring log s)) sv))
-    (Ended (record { flushed = flushed_file_offset (ring log s); last = last_file_offset (ring log s); found = sv }))
+    cond (ltb 1 left) (Continue (at_header (record { at = behind log s; len = sector_count log }) (left - 1) (flushed_file_offset (ring log s)) (last_file_offset (ring log s)) sv))
+    (Break (Some (record { flushed = flushed_file_offset (ring log s); last = last_file_offset (ring log s); found = sv })))
 
 behind_more : (log : List ℕ) (s k : ℕ) (sv : Survey)
-    → behind_entry log s (suc (suc k)) sv ≡ Sector (at_header (record { at = behind log s; len = sector_count log }) (suc k) (flushed_file_offset (ring log s)) (last_file_offset (ring log s)) sv)
+    → behind_entry log s (suc (suc k)) sv ≡ Continue (at_header (record { at = behind log s; len = sector_count log }) (suc k) (flushed_file_offset (ring log s)) (last_file_offset (ring log s)) sv)
 behind_more log s k sv =
-    ap (λ (b : Bool). cond b (Sector (at_header (record { at = behind log s; len = sector_count log }) (suc (suc k) - 1) (flushed_file_offset (ring log s)) (last_file_offset (ring log s)) sv))
-    (Ended (record { flushed = flushed_file_offset (ring log s); last = last_file_offset (ring log s); found = sv }))) (lt-ltb 1 (suc (suc k)) (omega arith))
-    ∙ ap {B = Step} (λ (n : ℕ). Sector (at_header (record { at = behind log s; len = sector_count log }) n (flushed_file_offset (ring log s)) (last_file_offset (ring log s)) sv)) {x = suc (suc k) - 1} {y = suc k} (omega arith)
+    ap (λ (b : Bool). cond b (Continue (at_header (record { at = behind log s; len = sector_count log }) (suc (suc k) - 1) (flushed_file_offset (ring log s)) (last_file_offset (ring log s)) sv))
+    (Break (Some (record { flushed = flushed_file_offset (ring log s); last = last_file_offset (ring log s); found = sv })))) (lt-ltb 1 (suc (suc k)) (omega arith))
+    ∙ ap {B = Step} (λ (n : ℕ). Continue (at_header (record { at = behind log s; len = sector_count log }) n (flushed_file_offset (ring log s)) (last_file_offset (ring log s)) sv)) {x = suc (suc k) - 1} {y = suc k} (omega arith)
 
 module _ (log : List ℕ) (e : Extent) (s left : ℕ) (on : On log (record { at = s; len = sector_count log })) (readable : Readable (ring log s)) (some : 0 < left) where
   abbrev c : ℕ
@@ -122,7 +122,7 @@ module _ (log : List ℕ) (e : Extent) (s left : ℕ) (on : On log (record { at 
 
   -- a further sector of the entry
   reads_on : (report : Report) (j : ℕ) (sv : Survey) → j < sector_count log → 0 < j
-      → Surveys log e (passed e (tour_in log s left j sv) (sector_at (ring log s) j)) report → Surveys log e (Sector (tour_in log s left j sv)) report
+      → Surveys log e (passed e (tour_in log s left j sv) (sector_at (ring log s) j)) report → Surveys log e (Continue (tour_in log s left j sv)) report
   unfolding step_of
   reads_on report zero sv l z h = absurd (omega arith)
   reads_on report (suc j) sv l z h =
@@ -152,12 +152,12 @@ module _ (log : List ℕ) (e : Extent) (s left : ℕ) (on : On log (record { at 
       ∙ ap (λ (x : ℕ). survey_from e (surveyed-in j sv) (descriptors_on log s x left)) (seen_next c j)
 
   turn : (report : Report) (j : ℕ) (sv : Survey) → (b : Bool) → ltb (seen_at c j + in_sector j) c ≡ b
-      → (seen_at c (j + 1) < c → Surveys log e (Sector (tour_in log s left (j + 1) (surveyed-in j sv))) report)
+      → (seen_at c (j + 1) < c → Surveys log e (Continue (tour_in log s left (j + 1) (surveyed-in j sv))) report)
       → (c ≤ seen_at c (j + 1) → Surveys log e (behind_entry log s left (surveyed-in j sv)) report)
-      → Surveys log e (cond b (Sector (further (tour_in log s left j sv) (in_sector j) (surveyed-in j sv))) (behind_entry log s left (surveyed-in j sv))) report
+      → Surveys log e (cond b (Continue (further (tour_in log s left j sv) (in_sector j) (surveyed-in j sv))) (behind_entry log s left (surveyed-in j sv))) report
   turn report j sv true h f g =
       let l : seen_at c j + in_sector j < c = ltb-true _ _ h in
-      subst (λ (t : Tour). Surveys log e (Sector t) report) (sym (further-is j sv)) (f (omega (arith, seen_next c j)))
+      subst (λ (t : Tour). Surveys log e (Continue t) report) (sym (further-is j sv)) (f (omega (arith, seen_next c j)))
   turn report j sv false h f g =
       let l : c ≤ seen_at c j + in_sector j = ltb-false _ _ h in
       g (omega (arith, seen_next c j))
@@ -205,14 +205,14 @@ module _ (log : List ℕ) (e : Extent) (s left : ℕ) (on : On log (record { at 
 
   entry : (report : Report) (flushed last : ℕ) (sv : Survey)
       → ((sv₂ : Survey) → survey_from e sv (descriptors_on log s 0 left) ≡ survey_from e sv₂ (descriptors_on log (behind log s) 0 (left - 1)) → Surveys log e (behind_entry log s left sv₂) report)
-      → Surveys log e (Sector (at_header (record { at = s; len = sector_count log }) left flushed last sv)) report
+      → Surveys log e (Continue (at_header (record { at = s; len = sector_count log }) left flushed last sv)) report
   unfolding step_of
   entry report flushed last sv after =
       let o = opened-is flushed last sv in
       let z : 0 ≡ seen_at c 0 = omega arith in
       next {t = at_header (record { at = s; len = sector_count log }) left flushed last sv} {r = report} (mod-lt (s + 0) {m = sector_count log} (omega (arith, on.0)))
-      (subst (λ (x : List ℕ). Surveys log e (cond (fits (opened (at_header (record { at = s; len = sector_count log }) left flushed last sv) x)) (passed e (opened (at_header (record { at = s; len = sector_count log }) left flushed last sv) x) x) Broken) report) (sym same-sector)
-      (subst (λ (t : Tour). Surveys log e (cond (fits t) (passed e t (sector_at log s)) Broken) report) (sym o)
+      (subst (λ (x : List ℕ). Surveys log e (cond (fits (opened (at_header (record { at = s; len = sector_count log }) left flushed last sv) x)) (passed e (opened (at_header (record { at = s; len = sector_count log }) left flushed last sv) x) x) (Break None)) report) (sym same-sector)
+      (subst (λ (t : Tour). Surveys log e (cond (fits t) (passed e t (sector_at log s)) (Break None)) report) (sym o)
       (rw (le-leb (descriptor_sectors c) (size (ring log s)) (omega arith), le-leb (size (ring log s)) (sector_count log) within)
       (subst (λ (x : List ℕ). Surveys log e (passed e (tour_in log s left 0 sv) x) report) (first-sector ∙ same-sector)
       (inside report (descriptor_sectors c - 1) 0 sv (omega arith) (λ sv₂ h. after sv₂ (ap (λ (x : ℕ). survey_from e sv (descriptors_on log s x left)) z ∙ h)))))))
@@ -231,22 +231,22 @@ module _ (log : List ℕ) (e : Extent) (whole : length log % 4096 ≡ 0) where
   on-ring s h = (h, omega arith)
 
   touring : (k s flushed last : ℕ) (sv : Survey) → s < sector_count log → AllReadable log s (suc k)
-      → Surveys log e (Sector (at_header (record { at = s; len = sector_count log }) (suc k) flushed last sv)) (report_from log e s k sv)
+      → Surveys log e (Continue (at_header (record { at = s; len = sector_count log }) (suc k) flushed last sv)) (report_from log e s k sv)
   unfolding AllReadable entries_from survey_from descriptors_on
   touring zero s flushed last sv h a =
       entry log e s 1 (on-ring s h) a.0 (omega arith) _ flushed last sv
-      (λ sv₂ same. subst (λ (v : Survey). Surveys log e (Ended (record { flushed = flushed_file_offset (ring log s); last = last_file_offset (ring log s); found = sv₂ })) (record { flushed = flushed_file_offset (ring log s); last = last_file_offset (ring log s); found = v })) (sym same) stop)
+      (λ sv₂ same. subst (λ (v : Survey). Surveys log e (Break (Some (record { flushed = flushed_file_offset (ring log s); last = last_file_offset (ring log s); found = sv₂ }))) (record { flushed = flushed_file_offset (ring log s); last = last_file_offset (ring log s); found = v })) (sym same) stop)
   touring (suc k) s flushed last sv h a =
       entry log e s (suc (suc k)) (on-ring s h) a.0 (omega arith) _ flushed last sv
       (λ sv₂ same.
       let below : behind log s < sector_count log = mod-lt (s + size (ring log s)) {m = sector_count log} (omega arith) in
       subst (λ (x : Step). Surveys log e x (report_from log e s (suc k) sv)) (sym (behind_more log s k sv₂))
-      (subst (λ (v : Survey). Surveys log e (Sector (at_header (record { at = behind log s; len = sector_count log }) (suc k) (flushed_file_offset (ring log s)) (last_file_offset (ring log s)) sv₂)) (record { flushed = (head (entries_from log (behind log s) k)).flushed; last = (head (entries_from log (behind log s) k)).last; found = v })) (sym (same ∙ ap (λ (n : ℕ). survey_from e sv₂ (descriptors_on log (behind log s) 0 n)) {x = suc (suc k) - 1} {y = suc k} (omega arith)))
+      (subst (λ (v : Survey). Surveys log e (Continue (at_header (record { at = behind log s; len = sector_count log }) (suc k) (flushed_file_offset (ring log s)) (last_file_offset (ring log s)) sv₂)) (record { flushed = (head (entries_from log (behind log s) k)).flushed; last = (head (entries_from log (behind log s) k)).last; found = v })) (sym (same ∙ ap (λ (n : ℕ). survey_from e sv₂ (descriptors_on log (behind log s) 0 n)) {x = suc (suc k) - 1} {y = suc k} (omega arith)))
       (touring k (behind log s) _ _ sv₂ below a.1)))
 
 pub surveys-all : SurveysAll
 surveys-all log e s k w =
     subst (λ (r : Report). Surveys log e (started (record { at = s; len = sector_count log }) k) r)
     (report-path refl refl (ap (survey_from e empty) (sym (chain-descriptors log s k)) ∙ surveyed e (all_descriptors (entries_from log s k))))
-    (subst (λ (n : ℕ). Surveys log e (Sector (at_header (record { at = s; len = sector_count log }) n 0 0 empty)) (report_from log e s k empty)) (sym (add-one k))
+    (subst (λ (n : ℕ). Surveys log e (Continue (at_header (record { at = s; len = sector_count log }) n 0 0 empty)) (report_from log e s k empty)) (sym (add-one k))
     (touring log e w.whole k s 0 0 empty w.start w.readable))

@@ -1,6 +1,6 @@
 -- What a found sequence's descriptors and its head say, in pieces: what a tour over its entries wants, and what it does with it.
 -- Assumes nothing.
-use Rattle.std.specs.Prelude.{Bool, false, cond, ◌&&◌, List, ◌≡◌, ℕ, zero, suc, ◌+◌, ◌-◌, ◌*◌, ◌/◌, ◌%◌, ◌≤◌, ◌<◌, min, nat_eq, nat_le, nat_lt}
+use Rattle.std.specs.Prelude.{Bool, false, cond, ◌&&◌, List, Option, None, Some, ◌≡◌, ℕ, zero, suc, ◌+◌, ◌-◌, ◌*◌, ◌/◌, ◌%◌, ◌≤◌, ◌<◌, min, nat_eq, nat_le, nat_lt}
 use Rattle.extent.specs.declared.Extent.{Extent}
 use Rattle.vhdx_entry.specs.declared.ring.RingPos.{RingPos}
 use Rattle.vhdx_entry.specs.Ring.{sector_count, sector_at, advanced}
@@ -14,8 +14,12 @@ use Rattle.vhdx_pieces_entry.specs.Sector.{descriptor_in, length_in}
 use Rattle.vhdx_pieces_entry.specs.Pass.{from_of, places_in}
 use Rattle.vhdx_pieces_survey.specs.declared.Tour.{Tour}
 use Rattle.vhdx_pieces_survey.specs.declared.Report.{Report}
-use Rattle.vhdx_pieces_survey.specs.declared.Step.{Step}
-use Rattle.vhdx_pieces_survey.specs.declared.Step.TheVariants.{Sector, Ended, Broken}
+use Rattle.std.specs.declared.ops.ControlFlow.{ControlFlow}
+use Rattle.std.specs.declared.ops.ControlFlow.TheVariants.{Continue, Break}
+
+-- a sector is wanted, or the tour has ended: without a report, if what was an entry of the sequence is none any more
+abbrev pub Step : Type 0
+Step = ControlFlow (Option Report) Tour
 
 -- a survey with one descriptor more
 unfoldable pub added_by : Extent → Survey → List ℕ → Survey
@@ -38,7 +42,7 @@ abbrev pub empty : Survey
 empty = record { lies = false; end = 0; count = 0 }
 
 abbrev pub started : RingPos → ℕ → Step
-started pos more = Sector (at_header pos (more + 1) 0 0 empty)
+started pos more = Continue (at_header pos (more + 1) 0 0 empty)
 
 abbrev pub opened : Tour → List ℕ → Tour
 opened t h =
@@ -71,9 +75,9 @@ further t m sv =
 -- past m descriptors, with the survey that they made
 unfoldable pub moved_on : Tour → ℕ → Survey → Step
 moved_on t m sv =
-    cond (nat_lt (t.seen + m) t.count) (Sector (further t m sv))
-    (cond (nat_lt 1 t.left) (Sector (at_header (advanced t.pos t.size) (t.left - 1) t.flushed t.last sv))
-    (Ended (record { flushed = t.flushed; last = t.last; found = sv })))
+    cond (nat_lt (t.seen + m) t.count) (Continue (further t m sv))
+    (cond (nat_lt 1 t.left) (Continue (at_header (advanced t.pos t.size) (t.left - 1) t.flushed t.last sv))
+    (Break (Some (record { flushed = t.flushed; last = t.last; found = sv }))))
 
 -- how many descriptors the next sector has
 abbrev pub here : Tour → ℕ
@@ -86,7 +90,7 @@ abbrev pub fits : Tour → Bool
 fits t = nat_le (descriptor_sectors t.count) t.size && nat_le t.size t.pos.len
 
 unfoldable pub step_of : Extent → Tour → List ℕ → Step
-step_of log t s = cond (nat_eq t.read 0) (cond (fits (opened t s)) (passed log (opened t s) s) Broken) (passed log t s)
+step_of log t s = cond (nat_eq t.read 0) (cond (fits (opened t s)) (passed log (opened t s) s) (Break None)) (passed log t s)
 
 -- ---- what a tour keeps to, whatever is fed
 
@@ -115,17 +119,15 @@ pub record Sane (t : Tour) : Type 0 where
   pub short : t.read < t.pos.len
 
 abbrev pub Onward : ℕ → Step → Type 0
-Onward n (Sector t) = Sane t × (t.pos.len ≡ n)
-Onward n (Ended r) = Unit {0}
-Onward n Broken = Unit {0}
+Onward n (Continue t) = Sane t × (t.pos.len ≡ n)
+Onward n (Break o) = Unit {0}
 
 -- ---- how many sectors it still asks for, at most
 
 -- of the entry it is in, and as many as the log has of each entry after it
 abbrev pub left_of : Step → ℕ
-left_of (Sector t) = (t.left - 1) * t.pos.len + (t.pos.len - t.read)
-left_of (Ended r) = 0
-left_of Broken = 0
+left_of (Continue t) = (t.left - 1) * t.pos.len + (t.pos.len - t.read)
+left_of (Break o) = 0
 
 -- ---- the theorems
 
@@ -133,7 +135,7 @@ left_of Broken = 0
 abbrev pub SurveyAdvances : Type 0
 SurveyAdvances =
     (e : Extent) (t : Tour) (p : List ℕ) → Sane t
-    → Onward t.pos.len (step_of e t p) × (left_of (step_of e t p) < left_of (Sector t))
+    → Onward t.pos.len (step_of e t p) × (left_of (step_of e t p) < left_of (Continue t))
 
 -- at the start
 abbrev pub SurveyStarts : Type 0
@@ -143,8 +145,8 @@ SurveyStarts =
 
 -- fed the sectors of a log that it wants, it ends with this report
 pub data Surveys (log : List ℕ) (e : Extent) : Step → Report → Type 0 where
-  stop : {r : Report} → Surveys log e (Ended r) r
-  next : {t : Tour} {r : Report} → wanted_of t < sector_count log → Surveys log e (step_of e t (sector_at log (wanted_of t))) r → Surveys log e (Sector t) r
+  stop : {r : Report} → Surveys log e (Break (Some r)) r
+  next : {t : Tour} {r : Report} → wanted_of t < sector_count log → Surveys log e (step_of e t (sector_at log (wanted_of t))) r → Surveys log e (Continue t) r
 
 -- of the entry at sector s and the k after it
 abbrev pub report_of : List ℕ → Extent → ℕ → ℕ → Report

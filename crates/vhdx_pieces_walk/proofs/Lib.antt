@@ -2,3 +2,4 @@ pub mod Allowed
 pub mod Turns
 pub mod Walked
 pub mod Advancing
+pub mod Ordered

@@ -2,8 +2,8 @@
 // a sector to write. It is handed in with the sector that it wanted, or after the write, and handed back moved.
 #![tactic(auto)]
 
-ghost use Rattle.std.specs.Prelude.{◌≡◌, ◌+◌, ◌*◌, ◌≤◌, ◌<◌, length};
-ghost use Rattle.vhdx_pieces_walk.specs.Walking.{Opened, SaneReading, SaneWriting, Onward, wanted_of, started, staged, resumed, idle_from, past_by, allowed, beyond_by, met, looked, opened as opened_of, step_of, wrote_of};
+ghost use Rattle.std.specs.Prelude.{◌≡◌, ◌+◌, ◌*◌, ◌≤◌, ◌<◌};
+ghost use Rattle.vhdx_pieces_walk.specs.Walking.{Opened, SaneReading, SaneWriting, Onward, wanted_of, started, resumed, idle_from, allowed, met, looked, opened as opened_of, step_of, wrote_of};
 
 use extent::Extent;
 use vhdx_entry::ring::RingPos;
@@ -54,6 +54,7 @@ pub struct Walker {
     pub stage: Stage,
 }
 
+// Four cases with names: a `ControlFlow` has one to go on with and one to end with.
 #[derive(Clone, Copy)]
 pub enum Step {
     Read(Walker),
@@ -87,36 +88,33 @@ pub fn wanted(w: Walker) -> usize
     requires { (b : Bounds) × SaneReading b w }
     ensures { (result ≡ wanted_of w) × (result < w.pos.len) }
 {
-    let stage = w.stage;
-    let pos = w.pos;
-    match stage {
-        Stage::Descriptors => pos.advance((64 + 32 * w.index) / 4096).at,
-        Stage::Data(d) => pos.advance(descriptor::sectors(w.count) + d.rank).at,
-        Stage::Header => pos.at,
-        Stage::Sector(_) => pos.at,
-        Stage::Zeros(_) => pos.at,
+    match w.stage {
+        Stage::Descriptors => w.pos.advance((64 + 32 * w.index) / 4096).at,
+        Stage::Data(d) => w.pos.advance(descriptor::sectors(w.count) + d.rank).at,
+        Stage::Header | Stage::Sector(_) | Stage::Zeros(_) => w.pos.at,
     }
 }
 
 // Fed it.
-pub fn next(w: Walker, b: Bounds, sector: &[u8]) -> Step
-    requires { SaneReading b w × (length sector.now ≡ 4096) }
+pub fn next(w: Walker, b: Bounds, sector: &[u8; 4096]) -> Step
+    requires { SaneReading b w }
     ensures { (result ≡ step_of b w sector.now) × Onward b w.pos.len result }
 {
-    let stage = w.stage;
-    match stage {
+    match w.stage {
         Stage::Header => {
             let o = opened(w, sector);
-            if (descriptor::sectors(o.count) <= o.size) & (o.size <= o.pos.len) {
+            if descriptor::sectors(o.count) <= o.size && o.size <= o.pos.len {
                 look(o, b, sector)
             } else {
                 Step::Broken
             }
         }
         Stage::Descriptors => look(w, b, sector),
-        Stage::Data(d) => Step::Write(with(w, Stage::Sector(d))),
-        Stage::Sector(_) => Step::Broken,
-        Stage::Zeros(_) => Step::Broken,
+        Stage::Data(d) => Step::Write(Walker {
+            stage: Stage::Sector(d),
+            ..w
+        }),
+        Stage::Sector(_) | Stage::Zeros(_) => Step::Broken,
     }
 }
 
@@ -125,165 +123,113 @@ pub fn wrote(w: Walker) -> Step
     requires { (b : Bounds) × SaneWriting b w × (b.limit < 18446744073709551616) }
     ensures { (result ≡ wrote_of w) × ((b : Bounds) → SaneWriting b w → Onward b w.pos.len result) }
 {
-    let stage = w.stage;
-    match stage {
+    match w.stage {
         Stage::Sector(_) => resume(w),
         Stage::Zeros(span) => {
             if 4096 < span.length {
-                Step::Write(with(
-                    w,
-                    Stage::Zeros(Extent {
+                Step::Write(Walker {
+                    stage: Stage::Zeros(Extent {
                         offset: span.offset + 4096,
                         length: span.length - 4096,
                     }),
-                ))
+                    ..w
+                })
             } else {
                 resume(w)
             }
         }
-        Stage::Header => Step::Broken,
-        Stage::Descriptors => Step::Broken,
-        Stage::Data(_) => Step::Broken,
-    }
-}
-
-fn with(w: Walker, stage: Stage) -> Walker
-    ensures { result ≡ staged w stage }
-{
-    let pos = w.pos;
-    Walker {
-        pos,
-        left: w.left,
-        count: w.count,
-        size: w.size,
-        index: w.index,
-        data: w.data,
-        stage,
+        Stage::Header | Stage::Descriptors | Stage::Data(_) => Step::Broken,
     }
 }
 
 // At an entry's header.
-fn opened(w: Walker, h: &[u8]) -> Walker
-    requires { length h.now ≡ 4096 }
+fn opened(w: Walker, h: &[u8; 4096]) -> Walker
     ensures { (result ≡ opened_of w h.now) × (result.count < 4294967296) }
 {
-    let pos = w.pos;
     Walker {
-        pos,
-        left: w.left,
         count: header::descriptor_count(h),
         size: header::entry_length(h) / 4096,
         index: 0,
         data: 0,
         stage: Stage::Descriptors,
+        ..w
     }
 }
 
 // The next descriptor of the sector that names bytes, or what follows where none does.
-fn look(w: Walker, b: Bounds, sector: &[u8]) -> Step
-    requires { Opened w × (length sector.now ≡ 4096) }
+fn look(w: Walker, b: Bounds, sector: &[u8; 4096]) -> Step
+    requires { Opened w }
     ensures { result ≡ looked b w sector.now }
 {
     let from = (64 + 32 * w.index) % 4096;
-    let m = vhdx_pieces_entry::least(w.count - w.index, (4096 - from) / 32);
+    let m = (w.count - w.index).min((4096 - from) / 32);
     let i = idle(sector, from, m);
+    let w = Walker {
+        index: w.index + i,
+        ..w
+    };
     if i < m {
-        meet(past(w, i), b, bytes::at(sector, from + 32 * i))
+        meet(w, b, field::array_at(sector, from + 32 * i))
     } else {
-        resume(past(w, i))
+        resume(w)
     }
 }
 
 // How many of the m descriptors from byte `from` of a sector on name no bytes, up to the first that does.
-fn idle(s: &[u8], from: usize, m: usize) -> usize
-    requires { (length s.now ≡ 4096) × (from + 32 * m ≤ 4096) }
+fn idle(s: &[u8; 4096], from: usize, m: usize) -> usize
+    requires { from + 32 * m ≤ 4096 }
     ensures { (result ≡ idle_from s.now from 0 m) × (result ≤ m) }
 {
-    let mut i: usize = 0;
-    while i < m {
-        if bytes::run_length(bytes::at(s, from + 32 * i)) != 0 {
+    for i in 0..m {
+        if bytes::run_length(field::array_at(s, from + 32 * i)) != 0 {
             return i;
         }
-        i += 1;
     }
-    i
-}
-
-// Past i descriptors that name no bytes.
-fn past(w: Walker, i: usize) -> Walker
-    requires { w.index + i < 4294967296 }
-    ensures { result ≡ past_by w i }
-{
-    let pos = w.pos;
-    let stage = w.stage;
-    Walker {
-        pos,
-        left: w.left,
-        count: w.count,
-        size: w.size,
-        index: w.index + i,
-        data: w.data,
-        stage,
-    }
+    m
 }
 
 // Whole sectors that lie neither in the first MiB nor in the log, and end within the final length.
 pub fn is_allowed(b: Bounds, offset: u64, n: u64) -> bool
     ensures { result ≡ allowed b offset n }
 {
-    let log = b.log;
+    // `&`, since `&&` is a branch at each test, and the proof is long
     extent::is_inside(offset, n, b.limit)
         & ((n % 4096 == 0)
             & !(extent::share_a_byte(offset, n, 0, extent::MIB)
-                | extent::share_a_byte(offset, n, log.offset, log.length)))
+                | extent::share_a_byte(offset, n, b.log.offset, b.log.length)))
 }
 
 // At the next descriptor, which names bytes.
-fn meet(w: Walker, b: Bounds, d: &[u8]) -> Step
-    requires { Opened w × (w.index < w.count) × (length d.now ≡ 32) }
+fn meet(w: Walker, b: Bounds, d: &[u8; 32]) -> Step
+    requires { Opened w × (w.index < w.count) }
     ensures { result ≡ met b w d.now }
 {
     let offset = descriptor::file_offset(d);
     let n = bytes::run_length(d);
-    if is_allowed(b, offset, n) {
-        if descriptor::is_data(d) {
-            if descriptor::sectors(w.count) + w.data < w.size {
-                Step::Read(beyond(
-                    w,
-                    w.data + 1,
-                    Stage::Data(Held {
-                        offset,
-                        leading: field::u64_at(d, 8),
-                        trailing: field::u32_at(d, 4),
-                        rank: w.data,
-                    }),
-                ))
-            } else {
-                Step::Broken
-            }
-        } else {
-            Step::Write(beyond(w, w.data, Stage::Zeros(Extent { offset, length: n })))
-        }
-    } else {
-        Step::Broken
+    if !is_allowed(b, offset, n) {
+        return Step::Broken;
     }
-}
-
-// Behind the next descriptor.
-fn beyond(w: Walker, data: usize, stage: Stage) -> Walker
-    requires { w.index < 4294967296 }
-    ensures { result ≡ beyond_by w «data» stage }
-{
-    let pos = w.pos;
-    Walker {
-        pos,
-        left: w.left,
-        count: w.count,
-        size: w.size,
+    if !descriptor::is_data(d) {
+        return Step::Write(Walker {
+            index: w.index + 1,
+            stage: Stage::Zeros(Extent { offset, length: n }),
+            ..w
+        });
+    }
+    if w.size <= descriptor::sectors(w.count) + w.data {
+        return Step::Broken;
+    }
+    Step::Read(Walker {
         index: w.index + 1,
-        data,
-        stage,
-    }
+        data: w.data + 1,
+        stage: Stage::Data(Held {
+            offset,
+            leading: field::u64_at(d, 8),
+            trailing: field::u32_at(d, 4),
+            rank: w.data,
+        }),
+        ..w
+    })
 }
 
 // The next descriptor, the next entry, or the end.
@@ -291,13 +237,15 @@ fn resume(w: Walker) -> Step
     requires { Opened w }
     ensures { result ≡ resumed w }
 {
-    let pos = w.pos;
     if w.index < w.count {
-        return Step::Read(with(w, Stage::Descriptors));
+        return Step::Read(Walker {
+            stage: Stage::Descriptors,
+            ..w
+        });
     }
     if 1 < w.left {
         return Step::Read(Walker {
-            pos: pos.advance(w.size),
+            pos: w.pos.advance(w.size),
             left: w.left - 1,
             count: 0,
             size: 0,

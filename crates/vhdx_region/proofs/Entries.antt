@@ -3,7 +3,7 @@
 use mathlib.Core.Path.{◌≡◌, ap, ◌∙◌}
 use mathlib.Core.Bool.{Bool, true, and-eq-true_iff}
 use mathlib.Core.List.{List}
-use mathlib.Core.Option.{some}
+use Rattle.std.specs.Prelude.{Some}
 use Prim.Native.Nat.{ℕ, ◌≤◌, ◌<◌}
 use native.Mathlib.Omega.{arith}
 use lib.Dec.{eqb}
@@ -35,7 +35,7 @@ few t h =
 abbrev pub is_of : List ℕ → ℕ → ℕ → Bool
 is_of t row i = eqb (identifier_in known_regions row) (identifier (entry t i))
 
-module _ (t : List ℕ) (row : ℕ) {i : ℕ} (e : entry_of t row ≡ some i) where
+module _ (t : List ℕ) (row : ℕ) {i : ℕ} (e : entry_of t row ≡ Some i) where
   pub found-entry : (i < entry_count t) × (identifier_in known_regions row ≡ identifier (entry t i))
   unfolding entry_of
   found-entry =

@@ -3,7 +3,7 @@
 use mathlib.Core.Path.{◌≡◌, refl, sym, ap, subst, ◌∙◌}
 use mathlib.Core.Bool.{Bool, true, false, cond, and-eq-true_iff}
 use mathlib.Core.List.{List}
-use mathlib.Core.Option.{Option, none, some}
+use Rattle.std.specs.Prelude.{Option, None, Some}
 use Prim.Native.Nat.{ℕ, ◌+◌, ◌%◌, ◌≤◌, ◌<◌}
 use native.Mathlib.Decide.{dec_lt}
 use native.Mathlib.Omega.{arith}
@@ -61,7 +61,7 @@ unfolding identifier_in known_regions stored lowest_first highest_first field le
 rows-differ = refl
 
 -- so their entries are two
-entries-differ : (t : List ℕ) {b m : ℕ} → entry_of t bat_row ≡ some b → entry_of t metadata_row ≡ some m → b ≡ m → ⊥
+entries-differ : (t : List ℕ) {b m : ℕ} → entry_of t bat_row ≡ Some b → entry_of t metadata_row ≡ Some m → b ≡ m → ⊥
 entries-differ t p q same =
     eqb-false _ _ rows-differ
     ((found-entry t bat_row p).1 ∙ ap (λ (i : ℕ). identifier (entry t i)) same ∙ sym (found-entry t metadata_row q).1)
@@ -89,9 +89,9 @@ module _ (n : ℕ) (log : Extent) (t : List ℕ) (kept : entries_rule n log t �
           shares-symmetric d.offset d.length e.offset e.length ∙ from-earlier j i (omega (arith, other)) hi
 
   found-both : (b m : Option ℕ) → entry_of t bat_row ≡ b → entry_of t metadata_row ≡ m → {g : Regions} → both_found t b m ≡ answered g → Found n g
-  found-both none m p q e = let z : ◌≡◌ {A = ℕ} 0 1 = cc in absurd (omega arith)
-  found-both (some b) none p q e = let z : ◌≡◌ {A = ℕ} 0 1 = cc in absurd (omega arith)
-  found-both (some b) (some m) p q {g} e =
+  found-both None m p q e = let z : ◌≡◌ {A = ℕ} 0 1 = cc in absurd (omega arith)
+  found-both (Some b) None p q e = let z : ◌≡◌ {A = ℕ} 0 1 = cc in absurd (omega arith)
+  found-both (Some b) (Some m) p q {g} e =
       let same : ◌≡◌ {A = Regions} (record { bat = extent_of (entry t b); metadata = extent_of (entry t m) }) g = cc e in
       let hb = (found-entry t bat_row p).0 in
       let hm = (found-entry t metadata_row q).0 in

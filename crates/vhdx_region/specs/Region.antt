@@ -2,9 +2,8 @@
 -- 01, "Regions and items", first paragraph; MS-VHDX 2.2.3). The image is a list of bytes; the log is where the current header
 -- says.
 -- Assumes nothing.
-use Rattle.std.specs.Prelude.{Bool, cond, not, ◌&&◌, ◌||◌, List, [], ◌∷◌, ℕ, ◌+◌, ◌*◌, nat_eq, nat_le, length, take, drop}
-use Rattle.std.proofs.Math.Option.{Option, none, some}
-use Rattle.decision.specs.Bounded.{every, first, is_some}
+use Rattle.std.specs.Prelude.{Bool, cond, not, ◌&&◌, ◌||◌, List, [], ◌∷◌, ℕ, ◌+◌, ◌*◌, nat_eq, nat_le, length, take, drop, Option, None, Some, is_some}
+use Rattle.decision.specs.Bounded.{every, first}
 use Rattle.decision.specs.Refusal.{Outcome, refused, answered, check}
 use Rattle.field.specs.Fields.{field, starts}
 use Rattle.extent.specs.declared.Extent.{Extent}
@@ -12,8 +11,6 @@ use Rattle.extent.specs.Extent.{mib, whole_mib, inside, shares}
 use Rattle.crc32c.specs.Crc.{crc, zeroed}
 use Rattle.guid.specs.Stored.{stored, identifier_in, row_of}
 use Rattle.vhdx_region.specs.declared.Regions.{Regions}
-use Rattle.vhdx_region.specs.declared.Answer.{Answer}
-use Rattle.vhdx_region.specs.declared.Answer.TheVariants.{Refused, Found}
 
 -- "Region tables are 65,536 bytes at 196,608 and 262,144"
 abbrev pub copy1 : ℕ
@@ -129,9 +126,9 @@ entry_of t row = first (entry_count t) (λ i. nat_eq (identifier_in known_region
 
 -- 11: "BAT or metadata region missing"
 abbrev pub both_found : List ℕ → Option ℕ → Option ℕ → Outcome Regions
-both_found t none m = refused 11
-both_found t (some b) none = refused 11
-both_found t (some b) (some m) = answered (record { bat = extent_of (entry t b); metadata = extent_of (entry t m) })
+both_found t None m = refused 11
+both_found t (Some b) None = refused 11
+both_found t (Some b) (Some m) = answered (record { bat = extent_of (entry t b); metadata = extent_of (entry t m) })
 
 -- 10: "a region entry breaks its rule"
 unfoldable pub read_table : ℕ → Extent → List ℕ → Outcome Regions
@@ -143,8 +140,3 @@ regions image log =
     let t₁ = table_at image copy1 in
     let t₂ = table_at image copy2 in
     cond (valid_table t₁) (read_table (length image) log t₁) (cond (valid_table t₂) (read_table (length image) log t₂) (refused 9))
-
--- what the code answers
-abbrev pub outcome : Answer → Outcome Regions
-outcome (Refused c) = refused c
-outcome (Found r) = answered r

@@ -8,23 +8,17 @@ pub mod location;
 mod table;
 
 ghost use Rattle.std.specs.Prelude.{true, ◌≡◌, ◌+◌, ◌≤◌, length as length_of};
+ghost use Rattle.decision.specs.Refusal.{outcome};
 ghost use Rattle.extent.specs.Extent.{mib};
-ghost use Rattle.vhdx_region.specs.Region.{table_at, valid_table, read_table, regions, outcome};
+ghost use Rattle.vhdx_region.specs.Region.{table_at, valid_table, read_table, regions};
 
-use decision::Index;
+use decision::Refusal;
 use extent::Extent;
 
-#[derive(Clone, Copy)]
+#[derive(Clone, Copy, Debug, PartialEq, Eq, Drop)]
 pub struct Regions {
     pub bat: Extent,
     pub metadata: Extent,
-}
-
-#[derive(Clone, Copy)]
-pub enum Answer {
-    // document 01's number
-    Refused(u64),
-    Found(Regions),
 }
 
 // Where the two copies stand.
@@ -33,7 +27,8 @@ const COPY1: usize = 196608;
 const COPY2: usize = 262144;
 
 // Of an image whose log is here.
-pub fn read(image: &[u8], log: Extent) -> Answer
+#[tactic(auto, unfolding(crate::specs::Region::regions))]
+pub fn read(image: &[u8], log: Extent) -> Result<Regions, Refusal>
     requires { mib ≤ length_of image.now }
     ensures { outcome result ≡ regions image.now log }
 {
@@ -43,38 +38,32 @@ pub fn read(image: &[u8], log: Extent) -> Answer
         return read_table(first, length, log);
     }
     let second = table_at(image, COPY2);
-    if table::is_valid(second) {
-        read_table(second, length, log)
-    } else {
-        Answer::Refused(9)
+    if !table::is_valid(second) {
+        return Err(Refusal::NoRegionTable);
     }
+    read_table(second, length, log)
 }
 
-fn table_at(image: &[u8], at: usize) -> &[u8]
+fn table_at(image: &[u8], at: usize) -> &[u8; 65536]
     requires { at + 65536 ≤ length_of image.now }
-    ensures bytes { result.now ≡ table_at image.now at }
-    ensures len { length_of result.now ≡ 65536 }
+    ensures { result.now ≡ table_at image.now at }
 {
-    let end = at + 65536;
-    &image[at..end]
+    field::array_at(image, at)
 }
 
 // Of a valid copy of the table, in an image of this length.
-fn read_table(t: &[u8], length: u64, log: Extent) -> Answer
-    requires { (length_of t.now ≡ 65536) × (valid_table t.now ≡ true) }
+#[tactic(auto, using(crate::proofs::Entries::found_below), unfolding(crate::specs::Region::read_table))]
+fn read_table(t: &[u8; 65536], length: u64, log: Extent) -> Result<Regions, Refusal>
+    requires { valid_table t.now ≡ true }
     ensures { outcome result ≡ read_table length log t.now }
 {
     if !table::keeps_rules(t, length, log) {
-        return Answer::Refused(10);
+        return Err(Refusal::RegionEntry);
     }
-    match table::find(t, known::BAT) {
-        Index::Nothing => Answer::Refused(11),
-        Index::At(b) => match table::find(t, known::METADATA) {
-            Index::Nothing => Answer::Refused(11),
-            Index::At(m) => Answer::Found(Regions {
-                bat: entry::extent(table::entry(t, b)),
-                metadata: entry::extent(table::entry(t, m)),
-            }),
-        },
-    }
+    let bat = table::find(t, known::BAT).ok_or(Refusal::RegionMissing)?;
+    let metadata = table::find(t, known::METADATA).ok_or(Refusal::RegionMissing)?;
+    Ok(Regions {
+        bat: entry::extent(table::entry(t, bat)),
+        metadata: entry::extent(table::entry(t, metadata)),
+    })
 }

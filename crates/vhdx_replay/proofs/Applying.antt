@@ -12,7 +12,7 @@ use lib.Seq.{take_all}
 use Rattle.extent.specs.declared.Extent.{Extent}
 use Rattle.extent.specs.Extent.{mib, shares, part}
 use Rattle.vhdx_header.specs.declared.Header.{Header}
-use Rattle.vhdx_header.specs.declared.Answer.TheVariants.{Current}
+use Rattle.std.specs.Prelude.{Ok}
 use Rattle.vhdx_header.specs.Current.{current_header}
 use Rattle.vhdx_header.proofs.Laws.{accepted}
 use Rattle.vhdx_entry.specs.Ring.{log_sector_size}
@@ -56,7 +56,7 @@ all-safe log m capacity (s ∷ ss) h w e c =
 
 -- ---- the log that a header names
 
-module _ (b : List ℕ) (n : ℕ) {h : Header} (k : current_header b n ≡ Current h) where
+module _ (b : List ℕ) (n : ℕ) {h : Header} (k : current_header b n ≡ Ok h) where
   pub extent-is : log_extent b n ≡ extent_of h
   unfolding log_extent
   extent-is = ap extent_by k
@@ -70,7 +70,7 @@ abbrev pub planned : List ℕ → Extent → Work → List Sector
 planned b log w = sectors (descriptors_left (part b log) w.cursor)
 
 module _ (b : List ℕ) (n : ℕ) (log : Extent) (w : Work) (p : Planned b n log w) where
-  pub header : (h : Header) × (current_header b n ≡ Current h)
+  pub header : (h : Header) × (current_header b n ≡ Ok h)
   header = header_of b n (sym p.same)
 
   pub here : log ≡ extent_of header.0

@@ -3,7 +3,9 @@
 use mathlib.Core.Path.{◌≡◌, refl, sym, ap, subst, ◌∙◌}
 use mathlib.Core.Bool.{Bool, true, false}
 use mathlib.Core.List.{List, [], ◌∷◌, map}
-use mathlib.Core.Option.{Option, none, some}
+use mathlib.Core.Option as math
+use mathlib.Core.Option.{none, some}
+use Rattle.std.specs.Prelude.{Option, None, Some}
 use Prim.Native.Nat.{ℕ, zero, suc, ◌+◌, ◌≤◌}
 use native.Mathlib.Numerals.{add-one}
 use native.Mathlib.Omega.{arith}
@@ -15,8 +17,6 @@ use Rattle.extent.specs.declared.Extent.{Extent}
 use Rattle.extent.specs.Extent.{part}
 use Rattle.vhdx_walk.specs.declared.Walk.{Walk}
 use Rattle.vhdx_walk.specs.declared.SectorWrite.{SectorWrite}
-use Rattle.vhdx_walk.specs.declared.Next.{Next}
-use Rattle.vhdx_walk.specs.declared.Next.TheVariants.{Sector as Here, End}
 use Rattle.vhdx_walk.specs.Entries.{Sector}
 use Rattle.vhdx_walk.specs.Cursor.{bytes_of, Held}
 use Rattle.vhdx_walk.specs.Walk.{sectors_left, walk_from, sector_of, next_of, HeldNext, Ready}
@@ -47,7 +47,7 @@ nth-whole (s ∷ ss) zero x w e = let same : s ≡ x = cc e in subst (λ (v : Se
 nth-whole (s ∷ ss) (suc i) x w e = nth-whole ss i x w.1 e
 
 module _ (b : List ℕ) (n : ℕ) (log : Extent) (w : Work) (p : Planned b n log w) (i : ℕ) where
-  by : (o : Option Step) → get_elem? (map write (planned b log w)) i ≡ o → chosen (plan b n) (i + 1) n ≡ admitted n o
+  by : (o : math.Option Step) → get_elem? (map write (planned b log w)) i ≡ o → chosen (plan b n) (i + 1) n ≡ admitted n o
   by o e =
       ap (λ (x : Plan). chosen x (i + 1) n) (plan-is b n log w p) ∙ ap (λ (k : ℕ). chosen (apply w.length (planned b log w)) k n) (add-one i)
       ∙ ap (admitted n) e
@@ -60,17 +60,17 @@ module _ (b : List ℕ) (n : ℕ) (log : Extent) (w : Work) (p : Planned b n log
     pub nth-ready : Ready l v
     nth-ready = subst (λ (x : List ℕ). Ready x v) (sym same) (subst (Ready (part b log)) (sym from) (ready-here b n log w p))
 
-    module _ (r : Next) (e : next_of l r ≡ get_elem? (sectors_left l v) i) where
+    module _ (r : Option SectorWrite) (e : next_of l r ≡ get_elem? (sectors_left l v) i) where
       found : next_of (part b log) r ≡ get_elem? (planned b log w) i
       found =
           ap (λ (x : List ℕ). next_of x r) (sym same) ∙ e
           ∙ ap (λ (x : List ℕ). get_elem? (sectors_left x v) i) same ∙ ap (λ (x : Walk). get_elem? (sectors_left (part b log) x) i) from
           ∙ ap (λ (ss : List Sector). get_elem? ss i) (left-from (part b log) w.cursor)
 
-      pub no-sector : r ≡ End → (21 ≡ refusal_of (chosen (plan b n) (i + 1) n)) × (b ≡ (runs (single (plan b n) (i + 1) n) (file b n)).buffer)
+      pub no-sector : r ≡ None → (21 ≡ refusal_of (chosen (plan b n) (i + 1) n)) × (b ≡ (runs (single (plan b n) (i + 1) n) (file b n)).buffer)
       no-sector told = says (refused 21) (by none (nth-none (planned b log w) i (ap (next_of (part b log)) (sym told) ∙ found)))
 
-      module _ (s : SectorWrite) (told : r ≡ Here s) where
+      module _ (s : SectorWrite) (told : r ≡ Some s) where
         here : some (sector_of (part b log) s) ≡ get_elem? (planned b log w) i
         here = ap (next_of (part b log)) (sym told) ∙ found
 

@@ -9,14 +9,14 @@ use Prim.Native.Nat.{ℕ, zero, suc, ◌+◌, ◌≤◌}
 use native.Mathlib.Omega.{arith}
 use lib.Dec.{leb}
 use lib.ListN.{length, take, get_or, get_elem?}
-use Rattle.decision.specs.Refusal.{refused as declined, answered, check}
+use Rattle.std.specs.Prelude.{Result, Ok, Err}
+use Rattle.decision.specs.declared.Refusal.{Refusal}
+use Rattle.decision.specs.Refusal.{number, refused as declined, answered, check}
 use Rattle.extent.specs.declared.Extent.{Extent}
 use Rattle.extent.specs.Extent.{mib}
 use Rattle.vhdx_header.specs.Current.{first_mib}
 use Rattle.vhdx_header.proofs.Laws.{accepted}
 use Rattle.vhdx_walk.specs.Entries.{Sector}
-use Rattle.vhdx_log.specs.declared.Answer.{Answer}
-use Rattle.vhdx_log.specs.declared.Answer.TheVariants.{Refused, Apply}
 use Rattle.vhdx_log.specs.declared.Work.{Work}
 use Rattle.vhdx_log.specs.Work.{Plan, refused, apply, count}
 use Rattle.vhdx_log.specs.Plan.{plan}
@@ -32,11 +32,11 @@ use Rattle.vhdx_steps.proofs.Restart.{ran, whole, good, untouched}
 
 -- ---- what the plan's answer says
 
-module _ (b : List ℕ) (n : ℕ) (r : Answer) (promised : (plan_of b n r ≡ plan b n) × ((count_of r ≡ count (plan b n)) × ReadyIn (log_of b n) r)) where
-  pub plan-refused : {c : ℕ} → r ≡ Refused c → refused c ≡ plan b n
+module _ (b : List ℕ) (n : ℕ) (r : Result Work Refusal) (promised : (plan_of b n r ≡ plan b n) × ((count_of r ≡ count (plan b n)) × ReadyIn (log_of b n) r)) where
+  pub plan-refused : {why : Refusal} → r ≡ Err why → refused (number why) ≡ plan b n
   plan-refused e = sym (ap (plan_in (log_of b n)) e) ∙ promised.0
 
-  pub work-planned : {w : Work} → r ≡ Apply w → {log : Extent} → log ≡ log_extent b n → Planned b n log w
+  pub work-planned : {w : Work} → r ≡ Ok w → {log : Extent} → log ≡ log_extent b n → Planned b n log w
   work-planned e here =
       record {
         here = here;

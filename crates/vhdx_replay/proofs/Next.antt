@@ -3,6 +3,7 @@
 use mathlib.Core.Path.{◌≡◌, refl, sym, ap, subst, ◌∙◌}
 use mathlib.Core.List.{List, [], ◌∷◌}
 use mathlib.Core.Option.{none, some}
+use Rattle.std.specs.Prelude.{Option, None, Some}
 use Prim.Native.Nat.{ℕ, ◌+◌, ◌≤◌}
 use native.Mathlib.Omega.{arith}
 use lib.ListN.{drop, get_elem?}
@@ -11,8 +12,6 @@ use Rattle.vhdx_walk.specs.Cursor.{bytes_of, Held}
 use Rattle.vhdx_walk.specs.Walk.{sectors_left, sector_of, next_of, HeldNext}
 use Rattle.vhdx_walk.specs.declared.Walk.{Walk}
 use Rattle.vhdx_walk.specs.declared.SectorWrite.{SectorWrite}
-use Rattle.vhdx_walk.specs.declared.Next.{Next}
-use Rattle.vhdx_walk.specs.declared.Next.TheVariants.{Sector as Here, End}
 use Rattle.vhdx_steps.specs.Buffer.{put}
 use Rattle.vhdx_replay.specs.Writes.{first_fits_in, first_written}
 
@@ -31,7 +30,7 @@ none_left (y ∷ l) e = let z : ◌≡◌ {A = ℕ} 0 1 = cc in absurd (omega ar
 -- p is the log as the code takes it from the buffer
 module _ (p log : List ℕ) (walk : Walk) (same : p ≡ log) where
   -- at a sector
-  module _ (r : Next) (s : SectorWrite) (told : r ≡ Here s) (e : next_of p r ≡ get_elem? (sectors_left p walk) 0) where
+  module _ (r : Option SectorWrite) (s : SectorWrite) (told : r ≡ Some s) (e : next_of p r ≡ get_elem? (sectors_left p walk) 0) where
     here : some (sector_of log s) ≡ get_elem? (sectors_left log walk) 0
     here = subst (λ (l : List ℕ). some (sector_of l s) ≡ get_elem? (sectors_left l walk) 0) same (sym (ap (next_of p) told) ∙ e)
 
@@ -45,7 +44,7 @@ module _ (p log : List ℕ) (walk : Walk) (same : p ≡ log) where
     held h = subst (λ (l : List ℕ). Held l s.source) same (subst (HeldNext p) told h)
 
   -- at the end
-  module _ (r : Next) (told : r ≡ End) (e : next_of p r ≡ get_elem? (sectors_left p walk) 0) where
+  module _ (r : Option SectorWrite) (told : r ≡ None) (e : next_of p r ≡ get_elem? (sectors_left p walk) 0) where
     empty : sectors_left log walk ≡ []
     empty = none_left (sectors_left log walk) (subst (λ (l : List ℕ). none ≡ get_elem? (sectors_left l walk) 0) same (sym (ap (next_of p) told) ∙ e))
 

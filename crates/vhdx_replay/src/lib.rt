@@ -8,7 +8,7 @@ pub mod store;
 
 ghost use Rattle.std.specs.Prelude.{◌≡◌, ◌+◌, ◌≤◌, length as length_of, take, drop};
 ghost use Rattle.extent.specs.Extent.{part as part_of};
-ghost use Rattle.decision.specs.Refusal.{refusal_of};
+ghost use Rattle.decision.specs.Refusal.{refusal_of, outcome};
 ghost use Rattle.vhdx_walk.specs.Walk.{sectors_left, Ready, Settled};
 ghost use Rattle.vhdx_log.specs.Plan.{plan};
 ghost use Rattle.vhdx_steps.specs.Buffer.{zeroed};
@@ -17,9 +17,10 @@ ghost use Rattle.vhdx_steps.specs.Calls.{file};
 ghost use Rattle.vhdx_replay.specs.Writes.{first_fits_in, first_written, all_written, Writable};
 ghost use Rattle.vhdx_replay.specs.Planned.{log_extent, Planned};
 
+use decision::Refusal;
 use extent::Extent;
 use vhdx_log::Work;
-use vhdx_walk::{Next, Walk};
+use vhdx_walk::Walk;
 
 // Step 0: zeros from the given length up to the final one, upward, so that growth that is interrupted is shorter growth.
 fn grow(buffer: &mut [u8], from: u64, to: u64)
@@ -34,11 +35,11 @@ pub fn log_extent(buffer: &[u8], length: u64) -> Extent
     ensures { result ≡ log_extent buffer.now length }
 {
     match vhdx_header::read(buffer, length) {
-        vhdx_header::Answer::Refused(_) => extent::nowhere(),
-        vhdx_header::Answer::Current(header) => Extent {
+        Ok(header) => Extent {
             offset: header.log_offset,
             length: header.log_length,
         },
+        Err(_) => extent::nowhere(),
     }
 }
 
@@ -52,22 +53,26 @@ pub fn first_steps(buffer: &mut [u8], length: u64, log: Extent, work: Work, coun
     write_sectors(buffer, log, start, count);
 }
 
-// Sector i of the planned work alone, which is step i + 1, and 0; or refusal 21 or 22.
-pub fn one_sector(buffer: &mut [u8], length: u64, log: Extent, work: Work, i: u64) -> u64
+// Sector i of the planned work alone, which is step i + 1; or refusal 21 or 22.
+pub fn one_sector(
+    buffer: &mut [u8],
+    length: u64,
+    log: Extent,
+    work: Work,
+    i: u64,
+) -> Result<(), Refusal>
     requires { Planned buffer.old length log work }
-    ensures value { result ≡ refusal_of (chosen (plan buffer.old length) (i + 1) length) }
+    ensures value { refusal_of (outcome result) ≡ refusal_of (chosen (plan buffer.old length) (i + 1) length) }
     ensures buffer_after { buffer.new ≡ (runs (single (plan buffer.old length) (i + 1) length) (file buffer.old length)).buffer }
 {
-    match vhdx_walk::from(work.cursor).nth(extent::part(buffer, log), i) {
-        Next::End => 21,
-        Next::Sector(s) => {
-            if extent::is_inside(s.offset, 4096, length) {
-                sector::write(buffer, log, s);
-                0
-            } else {
-                22
-            }
-        }
+    let s = vhdx_walk::from(work.cursor)
+        .nth(extent::part(buffer, log), i)
+        .ok_or(Refusal::NoSuchStep)?;
+    if extent::is_inside(s.offset, 4096, length) {
+        sector::write(buffer, log, s);
+        Ok(())
+    } else {
+        Err(Refusal::StepOutside)
     }
 }
 
@@ -79,8 +84,8 @@ fn write_next(buffer: &mut [u8], log: Extent, walk: Walk) -> Walk
     ensures rest { (sectors_left (part_of buffer.old log) result ≡ drop 1 (sectors_left (part_of buffer.old log) walk)) × Settled (part_of buffer.old log) result }
 {
     match walk.current(extent::part(buffer, log)) {
-        Next::End => walk,
-        Next::Sector(s) => {
+        None => walk,
+        Some(s) => {
             let next = walk.forward(extent::part(buffer, log), 1);
             sector::write(buffer, log, s);
             next
@@ -94,9 +99,7 @@ fn write_sectors(buffer: &mut [u8], log: Extent, start: Walk, count: u64)
     ensures { buffer.new ≡ all_written (take count (sectors_left (part_of buffer.old log) start)) buffer.old }
 {
     let mut walk = start;
-    let mut k = 0;
-    while k < count {
+    for _ in 0..count {
         walk = write_next(buffer, log, walk);
-        k += 1;
     }
 }

@@ -16,13 +16,9 @@ fn data(log: &[u8], descriptor: usize, sector: usize) -> [u8; 4096]
     ensures { result ≡ sector_bytes (take 32 (drop descriptor log.now)) (take 4096 (drop sector log.now)) }
 {
     let mut out = store::blank();
-    let end = sector + 4096;
-    store::bytes(&mut out, 0, &log[sector..end]);
-    let leading = descriptor + 8;
-    let behind = descriptor + 16;
-    store::bytes(&mut out, 0, &log[leading..behind]);
-    let trailing = descriptor + 4;
-    store::bytes(&mut out, 4092, &log[trailing..leading]);
+    store::bytes(&mut out, 0, &log[sector..sector + 4096]);
+    store::bytes(&mut out, 0, &log[descriptor + 8..descriptor + 16]);
+    store::bytes(&mut out, 4092, &log[descriptor + 4..descriptor + 8]);
     out
 }
 
@@ -32,11 +28,8 @@ pub fn write(buffer: &mut [u8], log: Extent, s: SectorWrite)
     ensures { buffer.new ≡ put buffer.old s.offset (bytes_of (part_of buffer.old log) s.source) }
 {
     let at = s.offset as usize;
-    let source = s.source;
-    match source {
-        Source::Zeros => {
-            store::zeros(buffer, at, at + 4096);
-        }
+    match s.source {
+        Source::Zeros => store::zeros(buffer, at, at + 4096),
         Source::Data { descriptor, sector } => {
             let out = data(extent::part(buffer, log), descriptor, sector);
             store::bytes(buffer, at, &out);

@@ -9,16 +9,13 @@ pub fn blank() -> [u8; 4096]
     [0u8; 4096]
 }
 
-// Zeros from an offset up to, not including, another; upward.
+// Zeros from an offset up to, not including, another; upward. A loop and no `fill`: its order shows here, and growth needs it.
 pub fn zeros(buffer: &mut [u8], from: usize, to: usize)
     requires { (from ≤ to) × (to ≤ length_of buffer.old) }
     ensures { buffer.new ≡ zeroed buffer.old from to }
 {
-    let n = to - from;
-    let mut k = 0;
-    while k < n {
-        buffer[from + k] = 0;
-        k += 1;
+    for at in from..to {
+        buffer[at] = 0;
     }
 }
 
@@ -27,9 +24,5 @@ pub fn bytes(buffer: &mut [u8], offset: usize, given: &[u8])
     requires { offset + length_of given.now ≤ length_of buffer.old }
     ensures { buffer.new ≡ put buffer.old offset given.now }
 {
-    let mut k = 0;
-    while k < given.len() {
-        buffer[offset + k] = given[k];
-        k += 1;
-    }
+    buffer[offset..offset + given.len()].copy_from_slice(given);
 }

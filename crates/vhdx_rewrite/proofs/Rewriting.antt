@@ -2,12 +2,12 @@
 -- Assumes nothing.
 use mathlib.Core.Path.{◌≡◌, sym, ap, ap₂, ◌∙◌}
 use mathlib.Core.Bool.{Bool, true, ◌&&◌, ◌||◌, and-eq-true_iff}
-use mathlib.Core.List.{List, ◌++◌, append-nil}
+use mathlib.Core.List.{List}
 use mathlib.Core.Logic.{inl, inr}
 use Prim.Native.Nat.{ℕ, ◌+◌, ◌*◌, ◌^◌, ◌≤◌, ◌<◌}
 use native.Mathlib.Omega.{arith}
 use lib.Dec.{eqb, leb}
-use lib.ListN.{length, take, replicate, length-replicate, drop_of_length-le}
+use lib.ListN.{length, take, replicate, length-replicate}
 use borrow.Author.Tests.{eq-eqb}
 use Rattle.field.specs.declared.Guid.{Guid}
 use Rattle.field.specs.Fields.{le_bytes, Bytes, field, number, starts}
@@ -163,15 +163,10 @@ module _ (h identifier : List ℕ) (long : length h ≡ 4096) (sixteen : length 
 
 -- ---- as the code puts it together
 
-put_whole : (z h : List ℕ) → length z ≡ length h → put z 0 h ≡ h
-unfolding put
-put_whole z h e = ap (λ (x : List ℕ). h ++ x) (drop_of_length-le z {i = 0 + length h} (omega arith)) ∙ append-nil h
-
-module _ (z h identifier : List ℕ) (p : length z ≡ 4096) (q : length h ≡ 4096) where
-  pub rewrite-is : (a b c d next none : List ℕ) (n : ℕ) → a ≡ put z 0 h → n ≡ sequence_number_of h → next ≡ le_bytes 8 (n + 1) → b ≡ put a 8 next
+module _ (h identifier : List ℕ) where
+  pub rewrite-is : (b c d next none : List ℕ) (n : ℕ) → n ≡ sequence_number_of h → next ≡ le_bytes 8 (n + 1) → b ≡ put h 8 next
       → c ≡ put b 16 identifier → none ≡ replicate 16 0 → d ≡ put c 48 none → d ≡ rewritten h identifier
   unfolding rewritten named numbered
-  rewrite-is a b c d next none n ea en enext eb ec enone ed =
-      let first : a ≡ h = ea ∙ put_whole z h (omega arith) in
+  rewrite-is b c d next none n en enext eb ec enone ed =
       let number : next ≡ le_bytes 8 (sequence_number_of h + 1) = enext ∙ ap (λ (x : ℕ). le_bytes 8 (x + 1)) en in
       cc

@@ -3,14 +3,13 @@
 use mathlib.Core.Path.{◌≡◌, sym, ap, subst, ◌∙◌}
 use mathlib.Core.List.{List}
 use mathlib.Core.Logic.{⊎_elim}
-use Prim.Native.Nat.{ℕ, ◌+◌, ◌-◌, ◌≤◌, ◌<◌}
+use Prim.Native.Nat.{ℕ, ◌+◌, ◌≤◌, ◌<◌}
 use native.Mathlib.Omega.{arith}
 use lib.ListN.{length, take, drop}
 use Rattle.extent.specs.Extent.{mib}
 use Rattle.vhdx_header.specs.Header.{sequence_number_of}
 use Rattle.vhdx_header.specs.Current.{header_at, first_mib, other_slot}
 use Rattle.vhdx_steps.specs.Buffer.{put}
-use Rattle.vhdx_steps.proofs.Bytes.{part-long}
 use Rattle.vhdx_rewrite.specs.Rewrite.{greatest, closed_header}
 use Rattle.vhdx_rewrite.specs.Writing.{Closable, header_written}
 use Rattle.vhdx_rewrite.proofs.Slots.{slot-part}
@@ -29,15 +28,12 @@ module _ (b : List ℕ) (slot : ℕ) (p : Closable b slot) where
   other_fits = omega (arith, other-low, p.large)
 
   -- the part that the code takes
-  module _ (h : List ℕ) (e : h ≡ take (slot + 4096 - slot) (drop slot b)) where
+  module _ (h : List ℕ) (e : h ≡ take 4096 (drop slot b)) where
     pub part-is : h ≡ header_at (first_mib b) slot
-    part-is = e ∙ ap (λ (n : ℕ). take n (drop slot b)) {x = slot + 4096 - slot} {y = 4096} (omega arith) ∙ sym (slot-part b slot low p.large)
+    part-is = e ∙ sym (slot-part b slot low p.large)
 
-    pub part-fits : (length h ≡ 4096) × (sequence_number_of h < greatest)
-    part-fits = (
-      ap length (e ∙ ap (λ (n : ℕ). take n (drop slot b)) {x = slot + 4096 - slot} {y = 4096} (omega arith)) ∙ part-long b slot 4096 fits,
-      subst (λ (x : List ℕ). sequence_number_of x < greatest) (sym part-is) p.below,
-    )
+    pub part-fits : sequence_number_of h < greatest
+    part-fits = subst (λ (x : List ℕ). sequence_number_of x < greatest) (sym part-is) p.below
 
     pub written : (identifier out g : List ℕ) (at : ℕ) → out ≡ closed_header h identifier → at ≡ other_slot slot → g ≡ put b at out → g ≡ header_written b slot identifier
     unfolding header_written

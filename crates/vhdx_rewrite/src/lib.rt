@@ -1,45 +1,36 @@
 // The header that closing a log writes, and its write (change request Q-6).
 #![tactic(auto)]
 
-ghost use Rattle.std.specs.Prelude.{◌≡◌, ◌+◌, ◌<◌, length as length_of, replicate};
+ghost use Rattle.std.specs.Prelude.{◌≡◌, ◌+◌, ◌<◌, length as length_of};
 ghost use Rattle.vhdx_header.specs.Header.{sequence_number_of};
 ghost use Rattle.vhdx_header.specs.Current.{header_at, first_mib, other_slot};
 ghost use Rattle.vhdx_rewrite.specs.Rewrite.{greatest, rewritten, closed_header};
 ghost use Rattle.vhdx_rewrite.specs.Writing.{Closable, header_written};
 
-use field::number;
 use vhdx_replay::store;
 
-fn no_identifier() -> [u8; 16]
-    ensures { result ≡ replicate 16 0 }
-{
-    [0u8; 16]
-}
-
 // The next sequence number, the given identifier, no log; all else is the current header's.
-fn rewrite(h: &[u8], identifier: &[u8; 16]) -> [u8; 4096]
-    requires { (length_of h.now ≡ 4096) × (sequence_number_of h.now < greatest) }
+fn rewrite(h: &[u8; 4096], identifier: &[u8; 16]) -> [u8; 4096]
+    requires { sequence_number_of h.now < greatest }
     ensures value { result ≡ rewritten h.now identifier.now }
     ensures len { length_of result ≡ 4096 }
 {
-    let mut out = store::blank();
-    store::bytes(&mut out, 0, h);
-    let next = number::bytes8(vhdx_header::fields::sequence_number(h) + 1);
+    let mut out = *h;
+    let next = (vhdx_header::fields::sequence_number(h) + 1).to_le_bytes();
     store::bytes(&mut out, 8, &next);
     store::bytes(&mut out, 16, identifier);
-    let none = no_identifier();
-    store::bytes(&mut out, 48, &none);
+    store::zeros(&mut out, 48, 64);
     out
 }
 
 // With its checksum made anew.
-fn closed(h: &[u8], identifier: &[u8; 16]) -> [u8; 4096]
-    requires { (length_of h.now ≡ 4096) × (sequence_number_of h.now < greatest) }
+fn closed(h: &[u8; 4096], identifier: &[u8; 16]) -> [u8; 4096]
+    requires { sequence_number_of h.now < greatest }
     ensures value { result ≡ closed_header h.now identifier.now }
     ensures len { length_of result ≡ 4096 }
 {
     let mut out = rewrite(h, identifier);
-    let sum = number::bytes4(crc32c::checksum_zeroed(&out, 4));
+    let sum = crc32c::checksum_zeroed(&out, 4).to_le_bytes();
     store::bytes(&mut out, 4, &sum);
     out
 }
@@ -58,8 +49,6 @@ pub fn write(buffer: &mut [u8], slot: u64, identifier: &[u8; 16])
     ensures buffer_after { buffer.new ≡ header_written buffer.old slot identifier.now }
     ensures header_len { length_of (closed_header (header_at (first_mib buffer.old) slot) identifier.now) ≡ 4096 }
 {
-    let at = slot as usize;
-    let end = at + 4096;
-    let out = closed(&buffer[at..end], identifier);
+    let out = closed(field::array_at(buffer, slot as usize), identifier);
     store::bytes(buffer, other_slot(slot) as usize, &out);
 }

@@ -4,7 +4,7 @@
 use mathlib.Core.Path.{◌≡◌, refl, sym, ap, ◌∙◌, subst}
 use mathlib.Core.Bool.{Bool, true, false, ◌&&◌, ◌||◌, and-eq-true_iff}
 use mathlib.Core.List.{List}
-use mathlib.Core.Option.{some}
+use Rattle.std.specs.Prelude.{Some}
 use Prim.Native.Nat.{ℕ, ◌+◌, ◌-◌, ◌*◌, ◌%◌, ◌≤◌, ◌<◌}
 use native.Mathlib.Decide.{dec_lt}
 use native.Mathlib.Nat.{div-add-mod}
@@ -89,7 +89,7 @@ unmarked r j a p q e = go (dec_lt j (descriptor_sectors (descriptor_count r)))
         sector-at r (j - descriptor_sectors (descriptor_count r)) a.each_sector (omega arith)
         (ap (λ (x : ℕ). signature (sector_at r x)) (omega arith) ∙ e)
 
-entry-is : (log : List ℕ) (guid : Guid) (s : ℕ) (e : Entry) → entry_at log guid s ≡ some e → (valid_entry guid (ring log s) ≡ true) × (contents (ring log s) ≡ e)
+entry-is : (log : List ℕ) (guid : Guid) (s : ℕ) (e : Entry) → entry_at log guid s ≡ Some e → (valid_entry guid (ring log s) ≡ true) × (contents (ring log s) ≡ e)
 unfolding entry_at
 entry-is log guid s e h =
     let k = only_if-some (valid_entry guid (ring log s)) (contents (ring log s)) (sym h) in
@@ -98,16 +98,16 @@ entry-is log guid s e h =
 pub whole-sectors : (log : List ℕ) → length log % 4096 ≡ 0 → length log ≡ sector_count log * 4096
 whole-sectors log h = omega (arith, div-add-mod (length log) 4096)
 
-pub valid-here : (log : List ℕ) (guid : Guid) (s : ℕ) (e : Entry) → entry_at log guid s ≡ some e → (valid_entry guid (ring log s) ≡ true) × (size (ring log s) ≡ e.size)
+pub valid-here : (log : List ℕ) (guid : Guid) (s : ℕ) (e : Entry) → entry_at log guid s ≡ Some e → (valid_entry guid (ring log s) ≡ true) × (size (ring log s) ≡ e.size)
 valid-here log guid s e h =
     let k = entry-is log guid s e h in
     (k.0, ap (λ (x : Entry). x.size) k.1)
 
 module _ (log : List ℕ) (guid : Guid) (whole : length log % 4096 ≡ 0) where
-  asked_here : (s : ℕ) (e : Entry) → entry_at log guid s ≡ some e → Asked (ring log s)
+  asked_here : (s : ℕ) (e : Entry) → entry_at log guid s ≡ Some e → Asked (ring log s)
   asked_here s e h = asked guid (ring log s) (entry-is log guid s e h).0
 
-  sized : (s : ℕ) (e : Entry) → s < sector_count log → entry_at log guid s ≡ some e → (0 < e.size) × (e.size ≤ sector_count log) × (e.tail < sector_count log)
+  sized : (s : ℕ) (e : Entry) → s < sector_count log → entry_at log guid s ≡ Some e → (0 < e.size) × (e.size ≤ sector_count log) × (e.tail < sector_count log)
   sized s e b h =
       let a = asked_here s e h in
       let w = whole-sectors log whole in
@@ -115,16 +115,16 @@ module _ (log : List ℕ) (guid : Guid) (whole : length log % 4096 ≡ 0) where
       subst (λ (x : Entry). (0 < x.size) × (x.size ≤ sector_count log) × (x.tail < sector_count log)) (entry-is log guid s e h).1
       (omega arith, omega (arith, a.fits), omega (arith, a.in_log))
 
-  marked : (s : ℕ) (e : Entry) → s < sector_count log → entry_at log guid s ≡ some e → mark_at log s ≡ true
+  marked : (s : ℕ) (e : Entry) → s < sector_count log → entry_at log guid s ≡ Some e → mark_at log s ≡ true
   marked s e b h =
       eq-eqb _ _ (sym (first_field log (sector_count log) s (whole-sectors log whole) b 0 4 (omega arith)) ∙ (asked_here s e h).marked)
 
-  numbered : (s : ℕ) (e : Entry) → s < sector_count log → entry_at log guid s ≡ some e → number_at log s ≡ e.number
+  numbered : (s : ℕ) (e : Entry) → s < sector_count log → entry_at log guid s ≡ Some e → number_at log s ≡ e.number
   numbered s e b h =
       sym (first_field log (sector_count log) s (whole-sectors log whole) b 16 8 (omega arith))
       ∙ ap (λ (x : Entry). x.number) (entry-is log guid s e h).1
 
-  inside : (s : ℕ) (e : Entry) → s < sector_count log → entry_at log guid s ≡ some e → (j : ℕ) → 0 < j → j < e.size → mark_at log ((s + j) % sector_count log) ≡ false
+  inside : (s : ℕ) (e : Entry) → s < sector_count log → entry_at log guid s ≡ Some e → (j : ℕ) → 0 < j → j < e.size → mark_at log ((s + j) % sector_count log) ≡ false
   inside s e b h j p q =
       let z = sized s e b h in
       let i = (valid-here log guid s e h).1 in

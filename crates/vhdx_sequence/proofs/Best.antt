@@ -3,7 +3,7 @@
 use Prim.Native.Nat.{ℕ, zero, suc, ◌≤◌, ◌<◌}
 use mathlib.Core.Path.{◌≡◌, refl, subst}
 use mathlib.Core.Bool.{Bool, true, false, cond, ◌&&◌, ◌||◌, and-eq-true_iff}
-use mathlib.Core.Option.{Option, none, some}
+use Rattle.std.specs.Prelude.{Option, None, Some}
 use mathlib.Core.Logic.{◌⊎◌, inl, inr}
 use native.Mathlib.Omega.{arith}
 use native.Mathlib.Decide.{dec_lt}
@@ -17,8 +17,8 @@ abbrev pub AsGood : Sequence → Sequence → Type 0
 AsGood p q = (q.number < p.number) ⊎ ((p.number ≡ q.number) × (p.start ≤ q.start))
 
 abbrev pub Covers : Option Sequence → Sequence → Type 0
-Covers none q = ⊥
-Covers (some p) q = AsGood p q
+Covers None q = ⊥
+Covers (Some p) q = AsGood p q
 
 pub as_good-refl : (p : Sequence) → AsGood p p
 as_good-refl p = inr (refl, omega arith)
@@ -57,18 +57,18 @@ beats-false q p h = go (ltb p.number q.number) (eqb p.number q.number) (ltb q.st
 
 -- what the better of two covers, and which it is
 pub better-left : (o w : Option Sequence) (q : Sequence) → Covers o q → Covers (better o w) q
-better-left none w q c = absurd c
-better-left (some p) none q c = c
-better-left (some p) (some r) q c = go (beats r p) refl
+better-left None w q c = absurd c
+better-left (Some p) None q c = c
+better-left (Some p) (Some r) q c = go (beats r p) refl
   where
     go : (t : Bool) → beats r p ≡ t → AsGood (cond t r p) q
     go true e = as_good-trans r p q (beats-true r p e) c
     go false e = c
 
 pub better-right : (o w : Option Sequence) (q : Sequence) → Covers w q → Covers (better o w) q
-better-right none w q c = c
-better-right (some p) none q c = absurd c
-better-right (some p) (some r) q c = go (beats r p) refl
+better-right None w q c = c
+better-right (Some p) None q c = absurd c
+better-right (Some p) (Some r) q c = go (beats r p) refl
   where
     go : (t : Bool) → beats r p ≡ t → AsGood (cond t r p) q
     go true e = c
@@ -76,14 +76,14 @@ better-right (some p) (some r) q c = go (beats r p) refl
 
 -- what holds of either holds of the better
 abbrev pub All : (Sequence → Type 0) → Option Sequence → Type 0
-All P o = (q : Sequence) → o ≡ some q → P q
+All P o = (q : Sequence) → o ≡ Some q → P q
 
 pub all-better : (P : Sequence → Type 0) (o w : Option Sequence) → All P o → All P w → All P (better o w)
-all-better P none w a b = b
-all-better P (some p) none a b = a
-all-better P (some p) (some r) a b = go (beats r p)
+all-better P None w a b = b
+all-better P (Some p) None a b = a
+all-better P (Some p) (Some r) a b = go (beats r p)
   where
-    go : (t : Bool) (q : Sequence) → ◌≡◌ {A = Option Sequence} (some (cond t r p)) (some q) → P q
+    go : (t : Bool) (q : Sequence) → ◌≡◌ {A = Option Sequence} (Some (cond t r p)) (Some q) → P q
     go true q e = b q e
     go false q e = a q e
 

@@ -3,7 +3,7 @@
 use Prim.Native.Nat.{ℕ, zero, suc, ◌+◌, ◌%◌, ◌<◌}
 use mathlib.Core.Path.{◌≡◌, refl, sym, ap, ◌∙◌, subst}
 use mathlib.Core.Bool.{Bool, true, false, ◌&&◌, and-eq-true_iff}
-use mathlib.Core.Option.{Option, none, some}
+use Rattle.std.specs.Prelude.{Option, None, Some}
 use mathlib.Core.Logic.{inl, inr}
 use native.Mathlib.Nat.{mod-lt}
 use native.Mathlib.Omega.{arith}
@@ -20,22 +20,22 @@ use Rattle.vhdx_sequence.proofs.Chain.{Apart, chain_first, chain-ended, chain-at
 pub record Is (n : ℕ) (entry : ℕ → Option Entry) (q : Sequence) : Type 0 where
   pub starts : q.start < n
   pub link : Link
-  pub there : chain n entry q.start q.more ≡ some link
+  pub there : chain n entry q.start q.more ≡ Some link
   pub tail : link.entry.tail ≡ q.start
   pub number : q.number ≡ link.entry.number
 
-pub only : {A : Type 0} (t : Bool) (a b : A) → t ≡ true → a ≡ b → only_if t a ≡ some b
+pub only : {A : Type 0} (t : Bool) (a b : A) → t ≡ true → a ≡ b → only_if t a ≡ Some b
 only t a b p q = rw (p, q)
 
 pub sequence-path : {a b c x y z : ℕ} → a ≡ x → b ≡ y → c ≡ z → ◌≡◌ {A = Sequence} (record { start = a; more = b; number = c }) (record { start = x; more = y; number = z })
 sequence-path p q r i = record { start = p i; more = q i; number = r i }
 
 module _ (n : ℕ) (entry : ℕ → Option Entry) (mark : ℕ → Bool) (number : ℕ → ℕ) (apart : Apart n entry mark number) where
-  of-link : (s k : ℕ) (q : Sequence) (w : Option Link) → s < n → chain n entry s k ≡ w → (w >>= (λ l. only_if {A = Sequence} (leb (upto l) n && eqb l.entry.tail s) (record { start = s; more = k; number = l.entry.number }))) ≡ some q → Is n entry q
-  of-link s k q none b c h = let z : ◌≡◌ {A = ℕ} 0 1 = cc in absurd (omega arith)
-  of-link s k q (some l) b c h = go (leb (upto l) n && eqb l.entry.tail s) refl h
+  of-link : (s k : ℕ) (q : Sequence) (w : Option Link) → s < n → chain n entry s k ≡ w → (w >>= (λ l. only_if {A = Sequence} (leb (upto l) n && eqb l.entry.tail s) (record { start = s; more = k; number = l.entry.number }))) ≡ Some q → Is n entry q
+  of-link s k q None b c h = let z : ◌≡◌ {A = ℕ} 0 1 = cc in absurd (omega arith)
+  of-link s k q (Some l) b c h = go (leb (upto l) n && eqb l.entry.tail s) refl h
     where
-      go : (t : Bool) → (leb (upto l) n && eqb l.entry.tail s) ≡ t → only_if {A = Sequence} t (record { start = s; more = k; number = l.entry.number }) ≡ some q → Is n entry q
+      go : (t : Bool) → (leb (upto l) n && eqb l.entry.tail s) ≡ t → only_if {A = Sequence} t (record { start = s; more = k; number = l.entry.number }) ≡ Some q → Is n entry q
       go false a g = let z : ◌≡◌ {A = ℕ} 0 1 = cc in absurd (omega arith)
       go true a g =
           subst (Is n entry) {x = record { start = s; more = k; number = l.entry.number }} (cc)
@@ -45,7 +45,7 @@ module _ (n : ℕ) (entry : ℕ → Option Entry) (mark : ℕ → Bool) (number 
   unfolding sequence
   sequence-is s k b q h = of-link s k q (chain n entry s k) b refl h
 
-  is-sequence : (q : Sequence) (i : Is n entry q) → sequence n entry q.start q.more ≡ some q
+  is-sequence : (q : Sequence) (i : Is n entry q) → sequence n entry q.start q.more ≡ Some q
   unfolding sequence
   is-sequence q i =
       rw i.there
@@ -54,7 +54,7 @@ module _ (n : ℕ) (entry : ℕ → Option Entry) (mark : ℕ → Bool) (number 
       (sequence-path refl refl (sym i.number)))
 
   -- an entry has at least one sector, so a chain has at most as many entries as it takes sectors
-  chain-count : (s k : ℕ) (l : Link) → s < n → chain n entry s k ≡ some l → k < upto l
+  chain-count : (s k : ℕ) (l : Link) → s < n → chain n entry s k ≡ Some l → k < upto l
   chain-count s zero l b h =
       omega (arith, apart.sized s l.entry b (chain_first n entry s l h).0)
   chain-count s (suc k) l b h =
@@ -84,7 +84,7 @@ module _ (n : ℕ) (entry : ℕ → Option Entry) (mark : ℕ → Bool) (number 
       start : p.start ≡ q.start
       start = omega arith
 
-      go : (f : Entry) × (entry p.start ≡ some f) → p ≡ q
+      go : (f : Entry) × (entry p.start ≡ Some f) → p ≡ q
       go (f, g) =
           sequence-path start
           (omega (arith, i.number, j.number, chain-number n entry p.start p.more i.link f g i.there, chain-number n entry q.start q.more j.link f (ap entry (sym start) ∙ g) j.there))
@@ -95,7 +95,7 @@ module _ (n : ℕ) (entry : ℕ → Option Entry) (mark : ℕ → Bool) (number 
   is-active o a c = go o (active_in n entry) a c active-is active-covers
     where
       go : (o w : Option Sequence) → All (Is n entry) o → ((q : Sequence) → Is n entry q → Covers o q) → All (Is n entry) w → ((q : Sequence) → Is n entry q → Covers w q) → o ≡ w
-      go none none a c b d = refl
-      go none (some q) a c b d = absurd (c q (b q refl))
-      go (some p) none a c b d = absurd (d p (a p refl))
-      go (some p) (some q) a c b d = ap {B = Option Sequence} some (one p q (a p refl) (b q refl) (c q (b q refl)) (d p (a p refl)))
+      go None None a c b d = refl
+      go None (Some q) a c b d = absurd (c q (b q refl))
+      go (Some p) None a c b d = absurd (d p (a p refl))
+      go (Some p) (Some q) a c b d = ap {B = Option Sequence} Some (one p q (a p refl) (b q refl) (c q (b q refl)) (d p (a p refl)))

@@ -4,7 +4,7 @@
 use Prim.Native.Nat.{ℕ, zero, suc, ◌+◌, ◌-◌, ◌%◌, ◌≤◌, ◌<◌}
 use mathlib.Core.Path.{◌≡◌, refl, sym, ap, ◌∙◌, subst}
 use mathlib.Core.Bool.{Bool, true, false, cond, ◌&&◌, and-eq-true_iff}
-use mathlib.Core.Option.{Option, none, some}
+use Rattle.std.specs.Prelude.{Option, None, Some}
 use mathlib.Core.Logic.{◌⊎◌, inl, inr, ⊎_elim}
 use native.Mathlib.Nat.{mod-lt, mod-eq_of_lt, add-mod-mod}
 use native.Mathlib.Omega.{arith}
@@ -25,7 +25,7 @@ use Rattle.vhdx_sequence.proofs.Chain.{Apart, mod-on, Ended, chain_first, chain-
 pub record Ran (n : ℕ) (entry : ℕ → Option Entry) (st : State) : Type 0 where
   pub more : ℕ
   pub link : Link
-  pub there : chain n entry (st.start % n) more ≡ some link
+  pub there : chain n entry (st.start % n) more ≡ Some link
   pub ends : st.start + upto link ≡ st.next
   pub number : link.entry.number ≡ st.number
 
@@ -33,7 +33,7 @@ pub record Ran (n : ℕ) (entry : ℕ → Option Entry) (st : State) : Type 0 wh
 -- `all`: the best so far is at least as good as every sequence whose head begins before u
 pub record Inv (n : ℕ) (entry : ℕ → Option Entry) (u : ℕ) (st : State) : Type 0 where
   pub run : (st.start ≡ st.next) ⊎ Ran n entry st
-  pub going : (s k : ℕ) (l : Link) → s < n → chain n entry s k ≡ some l → s + l.before < u → u ≤ s + upto l → (st.next ≡ s + upto l) × (st.number ≡ l.entry.number) × (st.start ≤ s)
+  pub going : (s k : ℕ) (l : Link) → s < n → chain n entry s k ≡ Some l → s + l.before < u → u ≤ s + upto l → (st.next ≡ s + upto l) × (st.number ≡ l.entry.number) × (st.start ≤ s)
   pub sound : All (Is n entry) st.best
   pub all : (q : Sequence) (i : Is n entry q) → q.start + i.link.before < u → Covers st.best q
 
@@ -41,22 +41,22 @@ pub record Inv (n : ℕ) (entry : ℕ → Option Entry) (u : ℕ) (st : State) :
 pub record Reach (n : ℕ) (entry : ℕ → Option Entry) (u r : ℕ) (e : Entry) : Type 0 where
   pub more : ℕ
   pub link : Link
-  pub there : chain n entry (r % n) more ≡ some link
+  pub there : chain n entry (r % n) more ≡ Some link
   pub at : r + link.before ≡ u
   pub is : link.entry ≡ e
-  pub least : (s k : ℕ) (l : Link) → s < n → chain n entry s k ≡ some l → s + l.before ≡ u → r ≤ s
+  pub least : (s k : ℕ) (l : Link) → s < n → chain n entry s k ≡ Some l → s + l.before ≡ u → r ≤ s
 
 module _ (n : ℕ) (entry : ℕ → Option Entry) (mark : ℕ → Bool) (number : ℕ → ℕ) (apart : Apart n entry mark number) where
-  module _ (u : ℕ) (st : State) (e : Entry) (pos : 0 < n) (inv : Inv n entry u st) (here : entry (u % n) ≡ some e) where
+  module _ (u : ℕ) (st : State) (e : Entry) (pos : 0 < n) (inv : Inv n entry u st) (here : entry (u % n) ≡ Some e) where
     -- a chain whose last entry stands at u ends in e
-    same-entry : (s k : ℕ) (l : Link) → s < n → chain n entry s k ≡ some l → s + l.before ≡ u → l.entry ≡ e
+    same-entry : (s k : ℕ) (l : Link) → s < n → chain n entry s k ≡ Some l → s + l.before ≡ u → l.entry ≡ e
     same-entry s k l b h p =
-        let a : entry ((s + l.before) % n) ≡ some l.entry = chain-at n entry s k l b h in
+        let a : entry ((s + l.before) % n) ≡ Some l.entry = chain-at n entry s k l b h in
         let c : entry ((s + l.before) % n) ≡ entry (u % n) = ap (λ (x : ℕ). entry (x % n)) p in
         cc
 
     -- such a chain is that entry alone, or goes on with the state's run
-    on-or-new : (s k : ℕ) (l : Link) → s < n → chain n entry s k ≡ some l → s + l.before ≡ u → (s ≡ u) ⊎ ((st.next ≡ u) × (e.number ≡ st.number + 1) × (st.start ≤ s))
+    on-or-new : (s k : ℕ) (l : Link) → s < n → chain n entry s k ≡ Some l → s + l.before ≡ u → (s ≡ u) ⊎ ((st.next ≡ u) × (e.number ≡ st.number + 1) × (st.start ≤ s))
     on-or-new s zero l b h p = inl (omega (arith, (chain_first n entry s l h).1))
     on-or-new s (suc k) l b h p =
         let d = chain-ended n entry s k l h in
@@ -66,7 +66,7 @@ module _ (n : ℕ) (entry : ℕ → Option Entry) (mark : ℕ → Bool) (number 
         let w : l.entry.number ≡ e.number = ap (λ (x : Entry). x.number) (same-entry s (suc k) l b h p) in
         inr (omega arith, omega (arith, d.rises), o.2)
 
-    reach-new : ((s k : ℕ) (l : Link) → s < n → chain n entry s k ≡ some l → s + l.before ≡ u → u ≤ s) → Reach n entry u u e
+    reach-new : ((s k : ℕ) (l : Link) → s < n → chain n entry s k ≡ Some l → s + l.before ≡ u → u ≤ s) → Reach n entry u u e
     reach-new h =
         record {
           more = 0;
@@ -80,7 +80,7 @@ module _ (n : ℕ) (entry : ℕ → Option Entry) (mark : ℕ → Bool) (number 
     reach-on : u ≡ st.next → e.number ≡ st.number + 1 → Reach n entry u st.start e
     reach-on p q = go inv.run
       where
-        least : st.start ≤ u → (s k : ℕ) (l : Link) → s < n → chain n entry s k ≡ some l → s + l.before ≡ u → st.start ≤ s
+        least : st.start ≤ u → (s k : ℕ) (l : Link) → s < n → chain n entry s k ≡ Some l → s + l.before ≡ u → st.start ≤ s
         least x s k l b h p = ⊎_elim (λ y. omega arith) (λ y. y.2) (on-or-new s k l b h p)
 
         go : (st.start ≡ st.next) ⊎ Ran n entry st → Reach n entry u st.start e
@@ -114,7 +114,7 @@ module _ (n : ℕ) (entry : ℕ → Option Entry) (mark : ℕ → Bool) (number 
             reach-on (eqb-true u st.next k.0) (eqb-true e.number (st.number + 1) k.1)
         go false h = reach-new fresh_start
           where
-            fresh_start : (s k : ℕ) (l : Link) → s < n → chain n entry s k ≡ some l → s + l.before ≡ u → u ≤ s
+            fresh_start : (s k : ℕ) (l : Link) → s < n → chain n entry s k ≡ Some l → s + l.before ≡ u → u ≤ s
             fresh_start s k l b c p = ⊎_elim (λ x. omega arith) (λ x. absurd (no_way x)) (on-or-new s k l b c p)
               where
                 no_way : (st.next ≡ u) × (e.number ≡ st.number + 1) × (st.start ≤ s) → ⊥
@@ -123,7 +123,7 @@ module _ (n : ℕ) (entry : ℕ → Option Entry) (mark : ℕ → Bool) (number 
                     let z : ◌≡◌ {A = ℕ} 0 1 = cc in
                     omega arith
 
-  module _ (u r : ℕ) (e : Entry) (pos : 0 < n) (here : entry (u % n) ≡ some e) (run : Reach n entry u r e) where
+  module _ (u r : ℕ) (e : Entry) (pos : 0 < n) (here : entry (u % n) ≡ Some e) (run : Reach n entry u r e) where
     abbrev found : Option Sequence
     found = headed_by n u r e (mark e.tail) (number e.tail)
 
@@ -137,17 +137,17 @@ module _ (n : ℕ) (entry : ℕ → Option Entry) (mark : ℕ → Bool) (number 
     headed-sound : All (Is n entry) (found)
     headed-sound q h = go (mark e.tail && leb (away n (r % n) e.tail) (u - r)) refl h
       where
-        go : (t : Bool) → (mark e.tail && leb (away n (r % n) e.tail) (u - r)) ≡ t → only_if {A = Sequence} t (record { start = e.tail; more = e.number - number e.tail; number = e.number }) ≡ some q → Is n entry q
+        go : (t : Bool) → (mark e.tail && leb (away n (r % n) e.tail) (u - r)) ≡ t → only_if {A = Sequence} t (record { start = e.tail; more = e.number - number e.tail; number = e.number }) ≡ Some q → Is n entry q
         go false a b = let z : ◌≡◌ {A = ℕ} 0 1 = cc in absurd (omega arith)
         go true a b =
             let k = (and-eq-true_iff (mark e.tail) (leb (away n (r % n) e.tail) (u - r))).0 a in
             let d : away n (r % n) e.tail ≤ u - r = leb-true _ _ k.1 in
             let at = run.at in
             let c = suffix-from n entry mark number apart (r % n) run.more (away n (r % n) e.tail) run.link (mod-lt r {m = n} pos) run.there (omega arith) (ap mark back ∙ k.0) in
-            let there : chain n entry e.tail c.more ≡ some c.to = ap (λ (s : ℕ). chain n entry s c.more) (sym back) ∙ c.there in
+            let there : chain n entry e.tail c.more ≡ Some c.to = ap (λ (s : ℕ). chain n entry s c.more) (sym back) ∙ c.there in
             made c there (chain_head n entry e.tail c.more c.to there)
           where
-            made : (c : Suffix n entry (r % n) (away n (r % n) e.tail) run.link) → chain n entry e.tail c.more ≡ some c.to → (f : Entry) × (entry e.tail ≡ some f) → Is n entry q
+            made : (c : Suffix n entry (r % n) (away n (r % n) e.tail) run.link) → chain n entry e.tail c.more ≡ Some c.to → (f : Entry) × (entry e.tail ≡ Some f) → Is n entry q
             made c there (f, g) =
                 let i : c.to.entry ≡ e = c.last ∙ run.is in
                 let j : c.to.entry.number ≡ e.number = ap (λ (x : Entry). x.number) i in
@@ -165,12 +165,12 @@ module _ (n : ℕ) (entry : ℕ → Option Entry) (mark : ℕ → Bool) (number 
                 })
 
     -- every sequence with its head at u is found there
-    headed-finds : (q : Sequence) (i : Is n entry q) → q.start + i.link.before ≡ u → found ≡ some q
+    headed-finds : (q : Sequence) (i : Is n entry q) → q.start + i.link.before ≡ u → found ≡ Some q
     headed-finds q i p = go (chain_head n entry q.start q.more i.link i.there)
       where
         entry-is : i.link.entry ≡ e
         entry-is =
-            let a : entry ((q.start + i.link.before) % n) ≡ some i.link.entry = chain-at n entry q.start q.more i.link i.starts i.there in
+            let a : entry ((q.start + i.link.before) % n) ≡ Some i.link.entry = chain-at n entry q.start q.more i.link i.starts i.there in
             let c : entry ((q.start + i.link.before) % n) ≡ entry (u % n) = ap (λ (x : ℕ). entry (x % n)) p in
             cc
 
@@ -186,7 +186,7 @@ module _ (n : ℕ) (entry : ℕ → Option Entry) (mark : ℕ → Bool) (number 
             let w : away n (r % n) e.tail ≡ e.tail - r = mod-round n (e.tail - r) (e.tail + (n - r % n)) (omega arith) (omega arith) in
             omega arith
 
-        go : (f : Entry) × (entry q.start ≡ some f) → found ≡ some q
+        go : (f : Entry) × (entry q.start ≡ Some f) → found ≡ Some q
         go (f, g) =
             let a : mark e.tail ≡ true = ap mark tail-is ∙ apart.marked q.start f i.starts g in
             let b : number e.tail ≡ f.number = ap number tail-is ∙ apart.numbered q.start f i.starts g in
@@ -217,7 +217,7 @@ module _ (n : ℕ) (entry : ℕ → Option Entry) (mark : ℕ → Bool) (number 
             better-right st.best (found) q
             (subst (λ (o : Option Sequence). Covers o q) (sym (headed-finds q i (omega arith))) (as_good-refl q))
 
-        decided : (s k : ℕ) (l : Link) → s < n → chain n entry s k ≡ some l → s + l.before < suc u → suc u ≤ s + upto l → Dec (s + l.before < u) → (u + e.size ≡ s + upto l) × (e.number ≡ l.entry.number) × (r ≤ s)
+        decided : (s k : ℕ) (l : Link) → s < n → chain n entry s k ≡ Some l → s + l.before < suc u → suc u ≤ s + upto l → Dec (s + l.before < u) → (u + e.size ≡ s + upto l) × (e.number ≡ l.entry.number) × (r ≤ s)
         decided s k l b h p o (yes a) =
             absurd
             (not-inside n entry mark number apart ((s + l.before) % n) l.entry e (u - (s + l.before)) (u % n)
@@ -225,16 +225,16 @@ module _ (n : ℕ) (entry : ℕ → Option Entry) (mark : ℕ → Bool) (number 
             (mod-on n (s + l.before) (u - (s + l.before)) u (omega arith)) here)
         decided s k l b h p o (no a) =
             let at : s + l.before ≡ u = omega arith in
-            let x : entry ((s + l.before) % n) ≡ some l.entry = chain-at n entry s k l b h in
+            let x : entry ((s + l.before) % n) ≡ Some l.entry = chain-at n entry s k l b h in
             let y : entry ((s + l.before) % n) ≡ entry (u % n) = ap (λ (x : ℕ). entry (x % n)) at in
             let z : l.entry ≡ e = cc in
             (omega (arith, ap (λ (x : Entry). x.size) z), ap (λ (x : Entry). x.number) (sym z), run.least s k l b h at)
 
-        going : (s k : ℕ) (l : Link) → s < n → chain n entry s k ≡ some l → s + l.before < suc u → suc u ≤ s + upto l → (u + e.size ≡ s + upto l) × (e.number ≡ l.entry.number) × (r ≤ s)
+        going : (s k : ℕ) (l : Link) → s < n → chain n entry s k ≡ Some l → s + l.before < suc u → suc u ≤ s + upto l → (u + e.size ≡ s + upto l) × (e.number ≡ l.entry.number) × (r ≤ s)
         going s k l b h p o = decided s k l b h p o (dec_lt (s + l.before) u)
 
   -- there is no entry at u
-  pub inv-none : (u : ℕ) (st : State) → entry (u % n) ≡ none → Inv n entry u st → Inv n entry (suc u) st
+  pub inv-none : (u : ℕ) (st : State) → entry (u % n) ≡ None → Inv n entry u st → Inv n entry (suc u) st
   inv-none u st h inv =
       record {
         run = inv.run;
@@ -243,14 +243,14 @@ module _ (n : ℕ) (entry : ℕ → Option Entry) (mark : ℕ → Bool) (number 
         all = λ q i p. inv.all q i (earlier q.start q.more i.link i.starts i.there p);
       }
     where
-      earlier : (s k : ℕ) (l : Link) → s < n → chain n entry s k ≡ some l → s + l.before < suc u → s + l.before < u
+      earlier : (s k : ℕ) (l : Link) → s < n → chain n entry s k ≡ Some l → s + l.before < suc u → s + l.before < u
       earlier s k l b c p = go (dec_lt (s + l.before) u)
         where
           go : Dec (s + l.before < u) → s + l.before < u
           go (yes a) = a
           go (no a) =
               let at : s + l.before ≡ u = omega arith in
-              let x : entry ((s + l.before) % n) ≡ some l.entry = chain-at n entry s k l b c in
+              let x : entry ((s + l.before) % n) ≡ Some l.entry = chain-at n entry s k l b c in
               let y : entry ((s + l.before) % n) ≡ entry (u % n) = ap (λ (x : ℕ). entry (x % n)) at in
               let z : ◌≡◌ {A = ℕ} 0 1 = cc in
               absurd (omega arith)
@@ -265,27 +265,27 @@ module _ (n : ℕ) (entry : ℕ → Option Entry) (mark : ℕ → Bool) (number 
       }
 
   -- no entry starts inside the entry at u, so the scan may go on behind it
-  pub inv-skip : (u : ℕ) (e : Entry) (st : State) → 0 < n → entry (u % n) ≡ some e → Inv n entry (suc u) st → (j : ℕ) → j < e.size → Inv n entry (suc (u + j)) st
+  pub inv-skip : (u : ℕ) (e : Entry) (st : State) → 0 < n → entry (u % n) ≡ Some e → Inv n entry (suc u) st → (j : ℕ) → j < e.size → Inv n entry (suc (u + j)) st
   inv-skip u e st pos h inv zero p = subst (λ (x : ℕ). Inv n entry (suc x) st) {x = u} (omega arith) inv
   inv-skip u e st pos h inv (suc j) p =
       subst (λ (x : ℕ). Inv n entry (suc x) st) {x = suc (u + j)} (omega arith)
       (inv-none (suc (u + j)) st (empty (entry (suc (u + j) % n)) refl) (inv-skip u e st pos h inv j (omega arith)))
     where
-      empty : (w : Option Entry) → entry (suc (u + j) % n) ≡ w → entry (suc (u + j) % n) ≡ none
-      empty none g = g
-      empty (some f) g =
+      empty : (w : Option Entry) → entry (suc (u + j) % n) ≡ w → entry (suc (u + j) % n) ≡ None
+      empty None g = g
+      empty (Some f) g =
           absurd
           (not-inside n entry mark number apart (u % n) e f (suc j) (suc (u + j) % n) (mod-lt u {m = n} pos) h (omega arith) p
           (mod-on n u (suc j) (suc (u + j)) (omega arith)) g)
 
   -- a sequence that starts before u and has its head at u or later has an entry that begins before u and ends at u or later
-  across : (u s k : ℕ) (l : Link) → chain n entry s k ≡ some l → s < u → u ≤ s + l.before → (j : ℕ) × (m : Link) × (chain n entry s j ≡ some m) × (s + m.before < u) × (u ≤ s + upto m)
+  across : (u s k : ℕ) (l : Link) → chain n entry s k ≡ Some l → s < u → u ≤ s + l.before → (j : ℕ) × (m : Link) × (chain n entry s j ≡ Some m) × (s + m.before < u) × (u ≤ s + upto m)
   across u s zero l h a b = absurd (omega (arith, (chain_first n entry s l h).1))
   across u s (suc k) l h a b =
       let d = chain-ended n entry s k l h in
       go d (dec_lt (s + d.prior.before) u) (λ c. across u s k d.prior d.there a c)
     where
-      go : (d : Ended n entry s k l) → Dec (s + d.prior.before < u) → (u ≤ s + d.prior.before → (j : ℕ) × (m : Link) × (chain n entry s j ≡ some m) × (s + m.before < u) × (u ≤ s + upto m)) → (j : ℕ) × (m : Link) × (chain n entry s j ≡ some m) × (s + m.before < u) × (u ≤ s + upto m)
+      go : (d : Ended n entry s k l) → Dec (s + d.prior.before < u) → (u ≤ s + d.prior.before → (j : ℕ) × (m : Link) × (chain n entry s j ≡ Some m) × (s + m.before < u) × (u ≤ s + upto m)) → (j : ℕ) × (m : Link) × (chain n entry s j ≡ Some m) × (s + m.before < u) × (u ≤ s + upto m)
       go d (yes c) r = (k, d.prior, d.there, c, omega (arith, d.from))
       go d (no c) r = r (omega arith)
 

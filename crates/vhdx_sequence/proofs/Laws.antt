@@ -3,7 +3,7 @@
 use mathlib.Core.Path.{◌≡◌, refl, ap, ◌∙◌}
 use mathlib.Core.Bool.{true}
 use mathlib.Core.List.{List}
-use mathlib.Core.Option.{Option, some}
+use Rattle.std.specs.Prelude.{Option, Some}
 use Prim.Native.Nat.{ℕ, zero, suc, ◌+◌, ◌%◌, ◌≤◌, ◌<◌}
 use native.Mathlib.Omega.{arith}
 use lib.ListN.{length}
@@ -22,13 +22,13 @@ use Rattle.vhdx_sequence.proofs.Apart.{apart, valid-here}
 -- a chain of more than one entry: its first, and the chain of the others, from where the first ends
 record Rest (n : ℕ) (entry : ℕ → Option Entry) (s k : ℕ) (l : Link) : Type 0 where
   first : Entry
-  starts : entry s ≡ some first
+  starts : entry s ≡ Some first
   to : Link
-  there : chain n entry ((s + first.size) % n) k ≡ some to
+  there : chain n entry ((s + first.size) % n) k ≡ Some to
   reach : first.size + to.before ≡ l.before
   last : to.entry ≡ l.entry
 
-chain-tail : (n : ℕ) (entry : ℕ → Option Entry) (s k : ℕ) (l : Link) → chain n entry s (suc k) ≡ some l → Rest n entry s k l
+chain-tail : (n : ℕ) (entry : ℕ → Option Entry) (s k : ℕ) (l : Link) → chain n entry s (suc k) ≡ Some l → Rest n entry s k l
 chain-tail n entry s zero l h =
     let d = chain-ended n entry s zero l h in
     let f = chain_first n entry s d.prior d.there in
@@ -62,7 +62,7 @@ chain-tail n entry s (suc k) l h =
         }
 
 module _ (log : List ℕ) (guid : Guid) where
-  linked : (s k : ℕ) (l : Link) → chain (sector_count log) (entry_at log guid) s k ≡ some l → Linked log guid s k × (total log s k ≡ upto l)
+  linked : (s k : ℕ) (l : Link) → chain (sector_count log) (entry_at log guid) s k ≡ Some l → Linked log guid s k × (total log s k ≡ upto l)
   unfolding Linked total
   linked s zero l h =
       let f = chain_first (sector_count log) (entry_at log guid) s l h in
@@ -70,14 +70,14 @@ module _ (log : List ℕ) (guid : Guid) where
       (v.0, omega (arith, v.1, f.1))
   linked s (suc k) l h = go (λ t to. linked t k to) (chain-tail (sector_count log) (entry_at log guid) s k l h)
     where
-      go : ((t : ℕ) (to : Link) → chain (sector_count log) (entry_at log guid) t k ≡ some to → Linked log guid t k × (total log t k ≡ upto to)) → Rest (sector_count log) (entry_at log guid) s k l → ((valid_entry guid (ring log s) ≡ true) × Linked log guid ((s + size (ring log s)) % sector_count log) k) × (size (ring log s) + total log ((s + size (ring log s)) % sector_count log) k ≡ upto l)
+      go : ((t : ℕ) (to : Link) → chain (sector_count log) (entry_at log guid) t k ≡ Some to → Linked log guid t k × (total log t k ≡ upto to)) → Rest (sector_count log) (entry_at log guid) s k l → ((valid_entry guid (ring log s) ≡ true) × Linked log guid ((s + size (ring log s)) % sector_count log) k) × (size (ring log s) + total log ((s + size (ring log s)) % sector_count log) k ≡ upto l)
       go others r =
           let v = valid-here log guid s r.first r.starts in
-          let e : chain (sector_count log) (entry_at log guid) ((s + size (ring log s)) % sector_count log) k ≡ some r.to = ap (λ (x : ℕ). chain (sector_count log) (entry_at log guid) ((s + x) % sector_count log) k) v.1 ∙ r.there in
+          let e : chain (sector_count log) (entry_at log guid) ((s + size (ring log s)) % sector_count log) k ≡ Some r.to = ap (λ (x : ℕ). chain (sector_count log) (entry_at log guid) ((s + x) % sector_count log) k) v.1 ∙ r.there in
           let i = others ((s + size (ring log s)) % sector_count log) r.to e in
           ((v.0, i.0), omega (arith, v.1, i.1, r.reach, ap (λ (x : Entry). x.size) r.last))
 
-  pub found : (q : Sequence) → length log % 4096 ≡ 0 → active_sequence log guid ≡ some q → (q.start < sector_count log) × Linked log guid q.start q.more × (total log q.start q.more ≤ sector_count log)
+  pub found : (q : Sequence) → length log % 4096 ≡ 0 → active_sequence log guid ≡ Some q → (q.start < sector_count log) × Linked log guid q.start q.more × (total log q.start q.more ≤ sector_count log)
   unfolding active_sequence
   found q whole h =
       let a = apart log guid whole in

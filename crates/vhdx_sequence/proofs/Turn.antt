@@ -4,7 +4,7 @@ use mathlib.Core.Path.{◌≡◌, refl, sym, ap, ◌∙◌, subst}
 use mathlib.Core.Bool.{Bool, true, false, ◌&&◌, ◌||◌, and-eq-true_iff}
 use mathlib.Core.List.{List}
 use mathlib.Core.Logic.{◌⊎◌, inl, inr, ⊎_elim}
-use mathlib.Core.Option.{some}
+use Rattle.std.specs.Prelude.{Option, None, Some}
 use Prim.Native.Nat.{ℕ, suc, ◌+◌, ◌-◌, ◌*◌, ◌%◌, ◌^◌, ◌≤◌, ◌<◌}
 use native.Mathlib.Nat.{mod-lt, mod-add-mod, zero-mod}
 use native.Mathlib.Omega.{arith}
@@ -13,11 +13,9 @@ use lib.ListN.{length}
 use borrow.Author.Tests.{ltb-true, ltb-false, leb-true, lt-ltb, le-leb}
 use Rattle.field.specs.declared.Guid.{Guid}
 use Rattle.vhdx_entry.specs.declared.Entry.{Entry}
-use Rattle.vhdx_entry.specs.declared.Slot.{Slot}
-use Rattle.vhdx_entry.specs.declared.Slot.TheVariants.{Valid, Empty}
 use Rattle.vhdx_entry.specs.Ring.{sector_count, On}
-use Rattle.vhdx_entry.specs.Entry.{entry_at, slot_of}
-use Rattle.vhdx_sequence.specs.Sequence.{sequence_of, active_sequence}
+use Rattle.vhdx_entry.specs.Entry.{entry_at}
+use Rattle.vhdx_sequence.specs.Sequence.{active_sequence}
 use Rattle.vhdx_sequence.specs.Scan.{Placed, moved, State, state_of, fresh, run_from, taken, goes_on, mark_at, number_at, Takes}
 use Rattle.vhdx_sequence.specs.declared.lap.Place.{Place}
 use Rattle.vhdx_sequence.specs.declared.scan.Trace.{Trace}
@@ -99,7 +97,7 @@ module _ {log : List ℕ} {guid : Guid} where
             (q, (omega (arith, now.here, mod-lt place.count {m = sector_count log} p), whole-sectors log now.whole ∙ ap (λ (m : ℕ). m * 4096) (sym now.here.1)))
 
     -- where the loop ends
-    pub finished : goes_on place.pos.len place.count (state_of st) ≡ false → sequence_of st.best ≡ active_sequence log guid
+    pub finished : goes_on place.pos.len place.count (state_of st) ≡ false → st.best ≡ active_sequence log guid
     unfolding active_sequence
     finished h =
         let t = test-false (sector_count log) place.count (state_of st) (ap (λ (m : ℕ). goes_on m place.count (state_of st)) (sym now.here.1) ∙ h) in
@@ -113,7 +111,7 @@ module _ {log : List ℕ} {guid : Guid} where
         )
 
     -- no entry starts here
-    pub turn-empty : {s : Slot} {next : Place} → slot_of s ≡ entry_at log guid place.pos.at → s ≡ Empty → next ≡ moved place 1 → Scanned log guid next st
+    pub turn-empty : {s : Option Entry} {next : Place} → s ≡ entry_at log guid place.pos.at → s ≡ None → next ≡ moved place 1 → Scanned log guid next st
     turn-empty {s} {next} a b e =
         record {
           whole = now.whole;
@@ -122,15 +120,15 @@ module _ {log : List ℕ} {guid : Guid} where
           there = now.there;
           inv =
               subst (λ (x : ℕ). Inv (sector_count log) (entry_at log guid) x (state_of st)) {x = suc place.count} (omega (arith, ap (λ (p : Place). p.count) e))
-              (inv-none (sector_count log) (entry_at log guid) (mark_at log) (number_at log) lies place.count (state_of st) (ap (entry_at log guid) (sym now.here.0) ∙ sym a ∙ ap slot_of b) now.inv);
+              (inv-none (sector_count log) (entry_at log guid) (mark_at log) (number_at log) lies place.count (state_of st) (ap (entry_at log guid) (sym now.here.0) ∙ sym a ∙ b) now.inv);
         }
 
-    module _ (on : On log place.pos) {s : Slot} {e : Entry} (is : slot_of s ≡ entry_at log guid place.pos.at) (valid : s ≡ Valid e) where
+    module _ (on : On log place.pos) {s : Option Entry} {e : Entry} (is : s ≡ entry_at log guid place.pos.at) (valid : s ≡ Some e) where
       some-sector : 0 < sector_count log
       some-sector = omega (arith, now.here.1)
 
-      entry_here : entry_at log guid (place.count % sector_count log) ≡ some e
-      entry_here = ap (entry_at log guid) (sym now.here.0) ∙ sym is ∙ ap slot_of valid
+      entry_here : entry_at log guid (place.count % sector_count log) ≡ Some e
+      entry_here = ap (entry_at log guid) (sym now.here.0) ∙ sym is ∙ valid
 
       pub sized-here : (0 < e.size) × (e.size ≤ place.pos.len) × (e.tail < place.pos.len)
       sized-here =

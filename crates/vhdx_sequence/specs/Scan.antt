@@ -1,13 +1,12 @@
 -- The scan that finds the active log sequence: its state, and what a turn does to it. A place on the scan's way is counted
 -- on past the ring's end: place u is sector u % n of a log of n sectors.
 -- Assumes nothing.
-use Rattle.std.specs.Prelude.{Bool, cond, ◌&&◌, ◌||◌, List, ◌≡◌, ℕ, ◌+◌, ◌-◌, ◌%◌, ◌^◌, ◌≤◌, ◌<◌, nat_le, nat_lt, nat_eq}
-use Rattle.std.proofs.Math.Option.{Option, none}
+use Rattle.std.specs.Prelude.{Bool, cond, ◌&&◌, ◌||◌, List, Option, None, ◌≡◌, ℕ, ◌+◌, ◌-◌, ◌%◌, ◌^◌, ◌≤◌, ◌<◌, nat_le, nat_lt, nat_eq}
 use Rattle.decision.specs.Bounded.{only_if}
 use Rattle.vhdx_entry.specs.declared.Entry.{Entry}
 use Rattle.vhdx_entry.specs.Ring.{sector_at, advanced, On}
 use Rattle.vhdx_entry.specs.Entry.{signature_rule, sequence_number_of}
-use Rattle.vhdx_sequence.specs.Sequence.{better, sequence_of}
+use Rattle.vhdx_sequence.specs.Sequence.{better}
 use Rattle.vhdx_sequence.specs.declared.Sequence.{Sequence}
 use Rattle.vhdx_sequence.specs.declared.lap.Place.{Place}
 use Rattle.vhdx_sequence.specs.declared.scan.Trace.{Trace}
@@ -34,11 +33,11 @@ pub record State : Type 0 where
 
 -- what the code keeps of it
 abbrev pub state_of : Trace → State
-state_of t = record { start = t.start.count; next = t.next; number = t.number; best = sequence_of t.best }
+state_of t = record { start = t.start.count; next = t.next; number = t.number; best = t.best }
 
 -- before the first entry
 abbrev pub fresh : State
-fresh = record { start = 0; next = 0; number = 0; best = none }
+fresh = record { start = 0; next = 0; number = 0; best = None }
 
 -- where the run began that an entry with this number at place u is in: it goes on with the state's run, or begins one
 abbrev pub run_from : ℕ → State → ℕ → ℕ

@@ -1,21 +1,18 @@
 -- Log sequences, and the active one of them (document 01, "The log"). Offsets in the log are counted in sectors.
 -- Assumes nothing.
-use Rattle.std.specs.Prelude.{Bool, cond, ◌&&◌, ◌||◌, List, ℕ, zero, suc, ◌+◌, ◌%◌, nat_lt, nat_le, nat_eq}
-use Rattle.std.proofs.Math.Option.{Option, none, some}
+use Rattle.std.specs.Prelude.{Bool, cond, ◌&&◌, ◌||◌, List, Option, None, Some, ℕ, zero, suc, ◌+◌, ◌%◌, nat_lt, nat_le, nat_eq}
 use Rattle.decision.specs.Bounded.{only_if}
 use Rattle.field.specs.declared.Guid.{Guid}
 use Rattle.vhdx_entry.specs.declared.Entry.{Entry}
 use Rattle.vhdx_entry.specs.Ring.{sector_count}
 use Rattle.vhdx_entry.specs.Entry.{entry_at}
 use Rattle.vhdx_sequence.specs.declared.Sequence.{Sequence}
-use Rattle.vhdx_sequence.specs.declared.Found.{Found}
-use Rattle.vhdx_sequence.specs.declared.Found.TheVariants.{At, Nothing}
 
 -- one after the other: what follows is none where the first is
 infixl 10 ◌>>=◌
 abbrev pub ◌>>=◌ : {A B : Type 0} → Option A → (A → Option B) → Option B
-none >>= f = none
-some a >>= f = f a
+None >>= f = None
+Some a >>= f = f a
 
 -- an entry of a list of entries, and how many sectors the entries before it take
 pub record Link : Type 0 where
@@ -32,13 +29,13 @@ beats q p = nat_lt p.number q.number || (nat_eq p.number q.number && nat_lt q.st
 
 -- the preferred one of two
 abbrev pub better : Option Sequence → Option Sequence → Option Sequence
-better none q = q
-better (some p) none = some p
-better (some p) (some q) = some (cond (beats q p) q p)
+better None q = q
+better (Some p) None = Some p
+better (Some p) (Some q) = Some (cond (beats q p) q p)
 
 -- the preferred one of f 0, .., f (m - 1)
 unfoldable pub best_of : ℕ → (ℕ → Option Sequence) → Option Sequence
-best_of zero f = none
+best_of zero f = None
 best_of (suc m) f = better (best_of m f) (f m)
 
 -- a log of n sectors, where `entry s` is the valid entry that starts at sector s, if there is one
@@ -48,7 +45,7 @@ module _ (n : ℕ) (entry : ℕ → Option Entry) where
   unfoldable pub chain : ℕ → ℕ → Option Link
   chain s zero = do
     e ← entry s
-    some (record { before = 0; entry = e })
+    Some (record { before = 0; entry = e })
   chain s (suc k) = do
     l ← chain s k
     e ← entry ((s + upto l) % n)
@@ -69,8 +66,3 @@ module _ (n : ℕ) (entry : ℕ → Option Entry) where
 -- the active log sequence of a log's bytes, in an image whose log has this identifier
 unfoldable pub active_sequence : List ℕ → Guid → Option Sequence
 active_sequence log guid = active_in (sector_count log) (entry_at log guid)
-
--- what the code answers
-abbrev pub sequence_of : Found → Option Sequence
-sequence_of (At q) = some q
-sequence_of Nothing = none

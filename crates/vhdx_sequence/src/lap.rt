@@ -16,9 +16,8 @@ impl Place {
         requires { (self.pos.at < self.pos.len) × (by ≤ self.pos.len) × (self.count + by < 2 ^ 64) }
         ensures { result ≡ moved self by }
     {
-        let pos = self.pos;
         Place {
-            pos: pos.advance(by),
+            pos: self.pos.advance(by),
             count: self.count + by,
         }
     }

@@ -1,11 +1,10 @@
 // The scan's state: the run of entries that it is in, and the best log sequence so far.
-ghost use Rattle.std.specs.Prelude.{◌≡◌, ◌-◌, ◌%◌, ◌≤◌, ◌<◌, ◌^◌, length};
+ghost use Rattle.std.specs.Prelude.{◌≡◌, ◌%◌, ◌≤◌, ◌<◌, ◌^◌};
 ghost use Rattle.vhdx_entry.specs.Entry.{signature_rule, sequence_number_of};
-ghost use Rattle.vhdx_sequence.specs.Sequence.{sequence_of};
 ghost use Rattle.vhdx_sequence.specs.Scan.{Placed, state_of, fresh, run_from, goes_on, headed_by, taken_by, taken, Taking, Takes};
 
 use crate::lap::Place;
-use crate::{Found, Sequence, lap, order};
+use crate::{Sequence, lap, order};
 use vhdx_entry::ring::RingPos;
 use vhdx_entry::{Entry, header, ring};
 
@@ -16,7 +15,7 @@ pub struct Trace {
     pub start: Place,
     pub next: usize,
     pub number: u64,
-    pub best: Found,
+    pub best: Option<Sequence>,
 }
 
 impl Trace {
@@ -32,7 +31,7 @@ impl Trace {
             },
             next: 0,
             number: 0,
-            best: Found::Nothing,
+            best: None,
         }
     }
 
@@ -40,15 +39,8 @@ impl Trace {
     pub fn goes_on(self, place: Place) -> bool
         ensures { result ≡ goes_on place.pos.len place.count (state_of self) }
     {
-        if place.count < place.pos.len {
-            return true;
-        }
-        if place.count <= self.next {
-            if self.start.count < place.pos.len {
-                return true;
-            }
-        }
-        false
+        place.count < place.pos.len
+            || (place.count <= self.next && self.start.count < place.pos.len)
     }
 
     // The entry that starts at a place is taken up.
@@ -61,25 +53,24 @@ impl Trace {
             log,
             RingPos {
                 at: e.tail,
-                len: place.pos.len,
+                ..place.pos
             },
         );
         self.take_by(tail, place, e)
     }
 
     // The same, given the sector that its Tail names.
-    pub fn take_by(self, tail: &[u8], place: Place, e: Entry) -> Trace
-        requires { (length tail.now ≡ 4096) × Taking place self e }
+    pub fn take_by(self, tail: &[u8; 4096], place: Place, e: Entry) -> Trace
+        requires { Taking place self e }
         ensures state { state_of result ≡ taken_by place.pos.len place.count (run_from place.count (state_of self) e.number) (state_of self) e (signature_rule tail.now) (sequence_number_of tail.now) }
         ensures placed { Placed place.pos.len result.start }
     {
-        let best = self.best;
         let start = run_from(self, place, e.number);
         Trace {
             start,
             next: place.count + e.size,
             number: e.number,
-            best: order::better(best, headed(tail, place, start, e)),
+            best: order::better(self.best, headed(tail, place, start, e)),
         }
     }
 }
@@ -90,38 +81,24 @@ fn run_from(trace: Trace, place: Place, number: u64) -> Place
     ensures count { result.count ≡ run_from place.count (state_of trace) number }
     ensures placed { Placed place.pos.len result }
 {
-    if place.count == trace.next {
-        if trace.number < number {
-            if number - trace.number == 1 {
-                return trace.start;
-            }
-        }
+    if place.count == trace.next && trace.number < number && number - trace.number == 1 {
+        trace.start
+    } else {
+        place
     }
-    place
 }
 
 // The sequence whose head is the entry `e` at a place, in the run from `start` on. `tail` is the sector that its Tail names: an
 // entry of the run starts there if it is marked and lies in the run.
-fn headed(tail: &[u8], place: Place, start: Place, e: Entry) -> Found
-    requires { (length tail.now ≡ 4096) × (start.count ≤ place.count) × (e.tail < start.pos.len) × (start.pos.len < 2 ^ 32) × (start.pos.at ≡ start.count % start.pos.len) }
-    ensures { sequence_of result ≡ headed_by start.pos.len place.count start.count e (signature_rule tail.now) (sequence_number_of tail.now) }
+fn headed(tail: &[u8; 4096], place: Place, start: Place, e: Entry) -> Option<Sequence>
+    requires { (start.count ≤ place.count) × (e.tail < start.pos.len) × (start.pos.len < 2 ^ 32) × (start.pos.at ≡ start.count % start.pos.len) }
+    ensures { result ≡ headed_by start.pos.len place.count start.count e (signature_rule tail.now) (sequence_number_of tail.now) }
 {
     let marked = header::is_marked(tail);
     let inside = lap::away(start.pos, e.tail) <= place.count - start.count;
-    if marked & inside {
-        Found::At(Sequence {
-            start: e.tail,
-            more: minus(e.number, header::sequence_number(tail)),
-            number: e.number,
-        })
-    } else {
-        Found::Nothing
-    }
-}
-
-// `a - b`, or 0.
-fn minus(a: u64, b: u64) -> u64
-    ensures { result ≡ a - b }
-{
-    if b <= a { a - b } else { 0 }
+    (marked && inside).then_some(Sequence {
+        start: e.tail,
+        more: e.number.saturating_sub(header::sequence_number(tail)),
+        number: e.number,
+    })
 }

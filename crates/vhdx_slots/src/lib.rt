@@ -5,34 +5,31 @@ ghost use Rattle.std.specs.Prelude.{◌≡◌};
 ghost use Rattle.vhdx_slots.specs.Slots.{bit, facts_in, facts_from};
 
 use extent::Extent;
+use field::Guid;
 use vhdx_facts::Facts;
 
 pub fn bit_of(b: bool) -> u64
     ensures { result ≡ bit b }
 {
-    if b { 1 } else { 0 }
+    u64::from(b)
 }
 
 pub fn write(facts: Facts, slots: &mut [u64; 32])
     ensures { slots.new ≡ facts_in facts slots.old }
 {
-    let id = facts.disk_id;
-    let bat = facts.bat;
-    let metadata = facts.metadata;
-    let locator = facts.locator;
     slots[3] = facts.logical_sector_size;
     slots[4] = facts.physical_sector_size;
     slots[5] = facts.block_size;
     slots[6] = facts.disk_size;
     slots[7] = bit_of(facts.has_parent);
-    slots[8] = id.low;
-    slots[9] = id.high;
-    slots[10] = bat.offset;
-    slots[11] = bat.length;
-    slots[12] = metadata.offset;
-    slots[13] = metadata.length;
-    slots[14] = locator.offset;
-    slots[15] = locator.length;
+    slots[8] = facts.disk_id.low;
+    slots[9] = facts.disk_id.high;
+    slots[10] = facts.bat.offset;
+    slots[11] = facts.bat.length;
+    slots[12] = facts.metadata.offset;
+    slots[13] = facts.metadata.length;
+    slots[14] = facts.locator.offset;
+    slots[15] = facts.locator.length;
 }
 
 pub fn read(slots: &[u64; 32]) -> Facts
@@ -44,7 +41,7 @@ pub fn read(slots: &[u64; 32]) -> Facts
         block_size: slots[5],
         disk_size: slots[6],
         has_parent: slots[7] != 0,
-        disk_id: field::Guid {
+        disk_id: Guid {
             low: slots[8],
             high: slots[9],
         },

@@ -4,22 +4,21 @@ use mathlib.Core.Path.{◌≡◌, refl, sym, ap, subst, ◌∙◌}
 use mathlib.Core.Bool.{Bool, true, false, cond, not, ◌&&◌, and-eq-true_iff}
 use mathlib.Core.List.{List, []}
 use mathlib.Core.Logic.{inl, inr, ⊎_elim}
-use mathlib.Core.Option.{Option, none, some}
+use Rattle.std.specs.Prelude.{Option, None, Some, Result, Ok, Err}
 use Prim.Native.Nat.{ℕ, ◌+◌, ◌%◌, ◌≤◌, ◌<◌}
 use native.Mathlib.Omega.{arith}
 use lib.Dec.{eqb, leb}
 use lib.ListN.{length, take, drop, get_or}
 use lib.Seq.{get_or-take, get_or-drop, ext_get_or}
 use borrow.Author.Tests.{leb-true, not-true}
-use Rattle.decision.specs.Refusal.{check}
+use Rattle.decision.specs.declared.Refusal.{Refusal}
+use Rattle.decision.specs.Refusal.{check, number as number_of}
 use Rattle.field.specs.declared.Guid.{Guid}
 use Rattle.field.specs.Fields.{number}
 use Rattle.extent.specs.declared.Extent.{Extent}
 use Rattle.extent.specs.Extent.{mib}
 use Rattle.vhdx_header.specs.Current.{first_mib, current_header}
 use Rattle.vhdx_header.specs.declared.Header.{Header}
-use Rattle.vhdx_header.specs.declared.Answer.{Answer}
-use Rattle.vhdx_header.specs.declared.Answer.TheVariants.{Refused, Current}
 use Rattle.vhdx_header.proofs.Laws.{accepted}
 use Rattle.vhdx_sequence.specs.declared.Sequence.{Sequence}
 use Rattle.vhdx_sequence.specs.Sequence.{active_sequence}
@@ -78,8 +77,8 @@ of-work log es n capacity {m} sized h =
 of-sequence : (log : Extent) (bytes : List ℕ) (guid : Guid) (n capacity : ℕ) (q : Option Sequence) {m : ℕ} {ss : List Sector} → length bytes % 4096 ≡ 0
     → active_sequence bytes guid ≡ q → plan_sequence log bytes n capacity q ≡ apply m ss → Applied log n capacity m ss
 unfolding plan_sequence
-of-sequence log bytes guid n capacity none whole e h = let z : ◌≡◌ {A = ℕ} 0 1 = cc in absurd (omega arith)
-of-sequence log bytes guid n capacity (some q) whole e h =
+of-sequence log bytes guid n capacity None whole e h = let z : ◌≡◌ {A = ℕ} 0 1 = cc in absurd (omega arith)
+of-sequence log bytes guid n capacity (Some q) whole e h =
     let f = found bytes guid q whole e in
     of-work log (entries_from bytes q.start q.more) n capacity (entries-sized bytes q.start q.more (linked-readable bytes guid q.start q.more f.1)) h
 
@@ -112,23 +111,23 @@ same_log h r r' b' b s = same-part h.log_offset h.log_length r r' b' b s
 -- ---- the plan of a file
 
 -- it is made by a current header
-pub header_of : (b : List ℕ) (n : ℕ) {m : ℕ} {ss : List Sector} → plan b n ≡ apply m ss → (h : Header) × (current_header b n ≡ Current h)
+pub header_of : (b : List ℕ) (n : ℕ) {m : ℕ} {ss : List Sector} → plan b n ≡ apply m ss → (h : Header) × (current_header b n ≡ Ok h)
 header_of b n {m} {ss} e = go (current_header b n) refl
   where
-    go : (a : Answer) → current_header b n ≡ a → (h : Header) × (current_header b n ≡ Current h)
-    go (Refused c) q = let never : refused c ≡ apply m ss = plan-refused b n c q ∙ e in let z : ◌≡◌ {A = ℕ} 0 1 = cc in absurd (omega arith)
-    go (Current h) q = (h, q)
+    go : (a : Result Header Refusal) → current_header b n ≡ a → (h : Header) × (current_header b n ≡ Ok h)
+    go (Err r) q = let never : refused (number_of r) ≡ apply m ss = plan-refused b n r q ∙ e in let z : ◌≡◌ {A = ℕ} 0 1 = cc in absurd (omega arith)
+    go (Ok h) q = (h, q)
 
-module _ (o : File) (h : Header) (k : current_header o.buffer o.size ≡ Current h) {m : ℕ} {ss : List Sector} (e : plan_of o ≡ apply m ss) where
+module _ (o : File) (h : Header) (k : current_header o.buffer o.size ≡ Ok h) {m : ℕ} {ss : List Sector} (e : plan_of o ≡ apply m ss) where
   pub applied : Applied (extent_of h) o.size (length o.buffer) m ss
   unfolding plan plan_header
   applied =
       let placed = log-placed o.buffer o.size h k in
-      of-log h (log_bytes h o.buffer) o.size (length o.buffer) (omega (arith, placed.0)) (ap (λ (a : Answer). plan_header a o.buffer o.size) (sym k) ∙ e)
+      of-log h (log_bytes h o.buffer) o.size (length o.buffer) (omega (arith, placed.0)) (ap (λ (a : Result Header Refusal). plan_header a o.buffer o.size) (sym k) ∙ e)
 
   -- any header that is current is the one
   log_kept : (g : File) → m ≤ length g.buffer → ((i : ℕ) → Kept (extent_of h) i → get_or g.buffer i 0 ≡ get_or o.buffer i 0)
-      → (h' : Header) → Current h ≡ Current h' → log_bytes h' g.buffer ≡ log_bytes h' o.buffer
+      → (h' : Header) → ◌≡◌ {A = Result Header Refusal} (Ok h) (Ok h') → log_bytes h' g.buffer ≡ log_bytes h' o.buffer
   log_kept g fits s h' q =
       let same : h ≡ h' = cc q in
       let a = accepted o.buffer o.size k in

@@ -2,3 +2,4 @@ pub mod Buffer
 pub mod Steps
 pub mod Calls
 pub mod Failures
+pub mod Stepped

@@ -13,7 +13,6 @@ use Rattle.vhdx_region.specs.declared.Regions.{Regions}
 use Rattle.vhdx_region.specs.Region.{regions}
 use Rattle.vhdx_metadata.specs.declared.Items.{Items}
 use Rattle.vhdx_metadata.specs.Items.{items}
-use Rattle.vhdx_tables.specs.declared.Reading.{Reading}
 
 -- "offset from the image's start": of an item at an offset of the region that starts here. "the locator's place is zero without a
 -- parent"
@@ -52,7 +51,7 @@ with_regions image g = and_then (items (part image g.metadata)) (λ m. judged im
 unfoldable pub tables : List ℕ → Extent → Outcome Facts
 tables image log = and_then (regions image log) (with_regions image)
 
--- the answer: 0 stands for no refusal. "On a refusal every fact is zero"
-abbrev pub reading : Outcome Facts → Reading
-reading (refused c) = record { refusal = c; facts = no_facts }
-reading (answered f) = record { refusal = 0; facts = f }
+-- the facts that a caller is told. "On a refusal every fact is zero"
+abbrev pub facts_told : Outcome Facts → Facts
+facts_told (refused c) = no_facts
+facts_told (answered f) = f

@@ -16,7 +16,7 @@ use Rattle.vhdx_walk.specs.declared.cursor.Cursor.{Cursor}
 use Rattle.vhdx_walk.specs.declared.cursor.Move.{Move}
 use Rattle.vhdx_walk.specs.declared.cursor.Move.TheVariants.{Done, Entry, Descriptor as Named}
 use Rattle.vhdx_walk.specs.declared.Walk.{Walk}
-use Rattle.vhdx_walk.specs.declared.Loaded.TheVariants.{Nothing, At}
+use Rattle.std.specs.Prelude.{None, Some}
 use Rattle.vhdx_walk.specs.Entries.{Descriptor, Sector, sectors_at, sectors, end, furthest, length_limit}
 use Rattle.vhdx_walk.specs.Cursor.{bytes_of, Held, descriptor_in, descriptors_left, Placed, Proper, ProperBy, Onward}
 use Rattle.vhdx_walk.specs.Walk.{sectors_in, sectors_left, Ready, Settled, walk_from, Following}
@@ -68,10 +68,6 @@ module _ (log : List ℕ) (w : Walk) where
       ∙ sym (drop-append-le j (sectors_in log w.run) (sectors (descriptors_left log w.cursor)) (omega (arith, length-sectors (w.run.length / 4096) w.run.offset (bytes_of log w.run.source)))
       ∙ ap (λ (l : List Sector). l ++ sectors (descriptors_left log w.cursor)) (drop-sectors j (w.run.length / 4096) w.run.offset (bytes_of log w.run.source)))
 
-  pub within-ready : (j : ℕ) → j < w.run.length / 4096 → Ready log w → Ready log (record { run = record { offset = w.run.offset + 4096 * j; length = w.run.length - 4096 * j; source = w.run.source }; cursor = w.cursor })
-  within-ready j h g =
-      record { placed = g.placed; bounded = g.bounded; ends = λ b. let e = g.ends (omega arith) in omega arith; held = g.held }
-
   -- past the whole run
   pub past-run : (k : ℕ) {rest : List Sector} → w.run.length / 4096 ≤ k → sectors (descriptors_left log w.cursor) ≡ rest
       → drop (k - w.run.length / 4096) rest ≡ drop k (sectors_left log w)
@@ -112,13 +108,13 @@ held_by log Zeros n p = tt
 held_by log (Data d s) n p = p.1
 
 module _ (log : List ℕ) (c : Cursor) (placed : Placed log c) (bounded : furthest (descriptors_left log c) ≤ length_limit) where
-  pub follows-done : {m : Move} → Onward log c m → m ≡ Done → Following log c Nothing
+  pub follows-done : {m : Move} → Onward log c m → m ≡ Done → Following log c None
   follows-done h e = ap sectors (subst (Onward log c) e h)
 
-  pub follows-entry : {m : Move} {next : Cursor} {w : Walk} → Onward log c m → m ≡ Entry next → w ≡ walk_from next → Following log c (At w)
+  pub follows-entry : {m : Move} {next : Cursor} {w : Walk} → Onward log c m → m ≡ Entry next → w ≡ walk_from next → Following log c (Some w)
   follows-entry {m} {next} {w} h e q =
       let (same, on, fewer) = subst (Onward log c) e h in
-      subst (λ (x : Walk). Following log c (At x)) (sym q)
+      subst (λ (x : Walk). Following log c (Some x)) (sym q)
       (ap sectors same ∙ sym (left-from log next), from-ready log next on (subst (λ (ds : List Descriptor). furthest ds ≤ length_limit) same bounded), omega (arith, ap length same))
 
   run-bound : (run : Run) (next : Cursor) → Proper log run → descriptors_left log c ≡ descriptor_in log run ∷ descriptors_left log next → 0 < run.length → run.offset + run.length ≤ length_limit
@@ -127,7 +123,7 @@ module _ (log : List ℕ) (c : Cursor) (placed : Placed log c) (bounded : furthe
       let b : max (end (descriptor_in log run)) (furthest (descriptors_left log next)) ≤ length_limit = subst (λ (ds : List Descriptor). furthest ds ≤ length_limit) same bounded in
       omega arith
 
-  pub follows-run : {m : Move} {run : Run} {next : Cursor} → Onward log c m → m ≡ Named run next → Following log c (At (record { run = run; cursor = next }))
+  pub follows-run : {m : Move} {run : Run} {next : Cursor} → Onward log c m → m ≡ Named run next → Following log c (Some (record { run = run; cursor = next }))
   unfolding sectors_left
   follows-run {m} {run} {next} h e =
       let (same, on, left, proper) = subst (Onward log c) e h in

@@ -1,18 +1,14 @@
 -- The walk over a found sequence's sectors, one after the other: which sectors it has before it, and the sector that it
 -- answers.
 -- Assumes nothing.
-use Rattle.std.specs.Prelude.{List, [], ◌++◌, ◌≡◌, ℕ, ◌+◌, ◌/◌, ◌≤◌, ◌<◌, length}
-use Rattle.std.proofs.Math.Option.{Option, none, some}
+use Rattle.std.specs.Prelude.{List, Option, None, Some, [], ◌++◌, ◌≡◌, ℕ, ◌+◌, ◌/◌, ◌≤◌, ◌<◌, length}
+use Rattle.std.proofs.Math.Option as math
 use Rattle.vhdx_entry.specs.Ring.{log_sector_size}
 use Rattle.vhdx_walk.specs.declared.run.Source.TheVariants.{Zeros}
 use Rattle.vhdx_walk.specs.declared.run.Run.{Run}
 use Rattle.vhdx_walk.specs.declared.cursor.Cursor.{Cursor}
 use Rattle.vhdx_walk.specs.declared.Walk as walk
 use Rattle.vhdx_walk.specs.declared.SectorWrite.{SectorWrite}
-use Rattle.vhdx_walk.specs.declared.Next.{Next}
-use Rattle.vhdx_walk.specs.declared.Next.TheVariants.{Sector as Here, End}
-use Rattle.vhdx_walk.specs.declared.Loaded.{Loaded}
-use Rattle.vhdx_walk.specs.declared.Loaded.TheVariants.{Nothing, At}
 use Rattle.vhdx_walk.specs.Entries.{Sector, sectors_at, sectors, furthest, length_limit}
 use Rattle.vhdx_walk.specs.Cursor.{bytes_of, Held, descriptors_left, Placed}
 
@@ -32,15 +28,15 @@ walk_from c = record { run = record { offset = 0; length = 0; source = Zeros }; 
 abbrev pub sector_of : List ℕ → SectorWrite → Sector
 sector_of log s = record { offset = s.offset; bytes = bytes_of log s.source }
 
--- the answer: a sector, or none left
-abbrev pub next_of : List ℕ → Next → Option Sector
-next_of log (Here s) = some (sector_of log s)
-next_of log End = none
+-- the answer: a sector, or none left, as `get_elem?` has it
+abbrev pub next_of : List ℕ → Option SectorWrite → math.Option Sector
+next_of log (Some s) = math.some (sector_of log s)
+next_of log None = math.none
 
 -- the answered sector's bytes are in the log
-abbrev pub HeldNext : List ℕ → Next → Type 0
-HeldNext log (Here s) = Held log s.source
-HeldNext log End = Unit {0}
+abbrev pub HeldNext : List ℕ → Option SectorWrite → Type 0
+HeldNext log (Some s) = Held log s.source
+HeldNext log None = Unit {0}
 
 -- what a walk relies on: no sector ends above the limit of refusal 8, so that no offset wraps
 pub record Ready (log : List ℕ) (w : walk.Walk) : Type 0 where
@@ -54,8 +50,8 @@ unfoldable pub Settled : List ℕ → walk.Walk → Type 0
 Settled log w = (w.run.length < log_sector_size) → sectors_left log w ≡ []
 
 -- what follows from a cursor on: nothing, or a walk that has fewer descriptors or entries before it
-abbrev pub Following : List ℕ → Cursor → Loaded → Type 0
-Following log c Nothing = sectors (descriptors_left log c) ≡ []
-Following log c (At w) =
+abbrev pub Following : List ℕ → Cursor → Option walk.Walk → Type 0
+Following log c None = sectors (descriptors_left log c) ≡ []
+Following log c (Some w) =
     (sectors (descriptors_left log c) ≡ sectors_left log w) × Ready log w
     × (length (descriptors_left log w.cursor) + w.cursor.left < length (descriptors_left log c) + c.left)

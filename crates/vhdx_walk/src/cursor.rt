@@ -19,6 +19,7 @@ pub struct Cursor {
     pub data: usize,
 }
 
+// Three cases with names, as its users ask them: no nested `Option`s.
 #[derive(Clone, Copy)]
 pub enum Move {
     Done,
@@ -33,8 +34,7 @@ impl Cursor {
         requires { Placed log.now self }
         ensures { Onward log.now self result }
     {
-        let left = self.left;
-        if left == 0 {
+        if self.left == 0 {
             return Move::Done;
         }
         let count = header::descriptor_count(ring::sector(log, self.pos));
@@ -43,7 +43,7 @@ impl Cursor {
         }
         Move::Entry(Cursor {
             pos: entry::next(log, self.pos),
-            left: left - 1,
+            left: self.left - 1,
             index: 0,
             data: 0,
         })
@@ -54,19 +54,17 @@ impl Cursor {
         requires { Placed log.now self × (0 < self.left) × (count ≡ descriptor_count (ring_of log.now self.pos.at)) × (count < 4294967296) × (self.index < count) }
         ensures { Onward log.now self result }
     {
-        let pos = self.pos;
-        let left = self.left;
-        let index = self.index;
-        let data = self.data;
-        let d = descriptor::at(log, pos, index);
+        let d = descriptor::at(log, self.pos, self.index);
+        let next = Cursor {
+            index: self.index + 1,
+            ..self
+        };
         if descriptor::is_data(d) {
             return Move::Descriptor(
-                run::of_data(log, pos, count, index, data),
+                run::of_data(log, self.pos, count, self.index, self.data),
                 Cursor {
-                    pos,
-                    left,
-                    index: index + 1,
-                    data: data + 1,
+                    data: self.data + 1,
+                    ..next
                 },
             );
         }
@@ -76,12 +74,7 @@ impl Cursor {
                 length: descriptor::zero_length(d),
                 source: Source::Zeros,
             },
-            Cursor {
-                pos,
-                left,
-                index: index + 1,
-                data,
-            },
+            next,
         )
     }
 }

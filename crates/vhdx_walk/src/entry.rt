@@ -22,10 +22,8 @@ pub fn head(log: &[u8], first: RingPos, more: u64) -> RingPos
     ensures { On log.now result × (head_of (entries_from log.now first.at more) ≡ log_entry (ring_of log.now result.at)) }
 {
     let mut pos = first;
-    let mut left = more;
-    while 0 < left {
+    for _ in 0..more {
         pos = next(log, pos);
-        left -= 1;
     }
     pos
 }

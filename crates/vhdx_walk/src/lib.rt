@@ -31,19 +31,6 @@ pub struct SectorWrite {
     pub source: Source,
 }
 
-#[derive(Clone, Copy)]
-pub enum Next {
-    Sector(SectorWrite),
-    End,
-}
-
-// What follows from a cursor on.
-#[derive(Clone, Copy)]
-enum Loaded {
-    At(Walk),
-    Nothing,
-}
-
 impl Walk {
     // The walk past k sectors, at the next one or at the end.
     pub fn forward(self, log: &[u8], k: u64) -> Walk
@@ -53,16 +40,13 @@ impl Walk {
     {
         let mut walk = self;
         let mut left = k;
+        // a `while`: a run is passed as a whole
         while walk.run.length / 4096 <= left {
             left -= walk.run.length / 4096;
-            match load(log, walk.cursor) {
-                Loaded::Nothing => {
-                    return from(walk.cursor);
-                }
-                Loaded::At(next) => {
-                    walk = next;
-                }
-            }
+            let Some(next) = load(log, walk.cursor) else {
+                return from(walk.cursor);
+            };
+            walk = next;
         }
         walk.within(log, left)
     }
@@ -73,45 +57,38 @@ impl Walk {
         ensures ready { Ready log.now result }
         ensures rest { (sectors_left log.now result ≡ drop j (sectors_left log.now self)) × (4096 ≤ result.run.length) }
     {
-        let run = self.run;
-        let source = run.source;
-        let cursor = self.cursor;
         Walk {
             run: Run {
-                offset: run.offset + 4096 * j,
-                length: run.length - 4096 * j,
-                source,
+                offset: self.run.offset + 4096 * j,
+                length: self.run.length - 4096 * j,
+                ..self.run
             },
-            cursor,
+            ..self
         }
     }
 
     // The sector that a walk is at.
-    pub fn current(self, log: &[u8]) -> Next
+    pub fn current(self, log: &[u8]) -> Option<SectorWrite>
         requires { Ready log.now self × Settled log.now self }
         ensures next { next_of log.now result ≡ get_elem? (sectors_left log.now self) 0 }
         ensures held { HeldNext log.now result }
     {
-        let run = self.run;
-        if run.length < 4096 {
-            Next::End
-        } else {
-            let source = run.source;
-            Next::Sector(SectorWrite {
-                offset: run.offset,
-                source,
-            })
+        if self.run.length < 4096 {
+            return None;
         }
+        Some(SectorWrite {
+            offset: self.run.offset,
+            source: self.run.source,
+        })
     }
 
     // Sector number k of those that are still to come.
-    pub fn nth(self, log: &[u8], k: u64) -> Next
+    pub fn nth(self, log: &[u8], k: u64) -> Option<SectorWrite>
         requires { Ready log.now self }
         ensures next { next_of log.now result ≡ get_elem? (sectors_left log.now self) k }
         ensures held { HeldNext log.now result }
     {
-        let there = self.forward(log, k);
-        there.current(log)
+        self.forward(log, k).current(log)
     }
 }
 
@@ -129,14 +106,14 @@ pub fn from(cursor: Cursor) -> Walk
     }
 }
 
-// One move of the cursor.
-fn load(log: &[u8], cursor: Cursor) -> Loaded
+// What follows from a cursor on, by one move of it.
+fn load(log: &[u8], cursor: Cursor) -> Option<Walk>
     requires { Placed log.now cursor × (furthest (descriptors_left log.now cursor) ≤ length_limit) }
     ensures { Following log.now cursor result }
 {
     match cursor.next(log) {
-        Move::Done => Loaded::Nothing,
-        Move::Entry(next) => Loaded::At(from(next)),
-        Move::Descriptor(run, next) => Loaded::At(Walk { run, cursor: next }),
+        Move::Done => None,
+        Move::Entry(next) => Some(from(next)),
+        Move::Descriptor(run, next) => Some(Walk { run, cursor: next }),
     }
 }

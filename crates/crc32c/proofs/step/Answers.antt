@@ -11,4 +11,4 @@ pub returns : goal.returns
 returns c =
     let a = c.args in
     let x = bit_xor a.state a.b in
-    ap (λ (y : ℕ). bit_xor y (x / 256)) (c.requires (x % 256) (mod-lt x (lit< tt))) ∙ byte-is a.state a.b
+    ap (λ (y : ℕ). bit_xor y (x / 256)) (c.entries.ensures (x % 256) (mod-lt x (lit< tt))) ∙ byte-is a.state a.b

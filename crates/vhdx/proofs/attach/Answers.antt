@@ -7,23 +7,27 @@ use Rattle.vhdx.proofs.attach.Goals as goal
 pub first_steps-requires : goal.first_steps-requires
 first_steps-requires c =
     let a = c.args in
-    work-planned a.buffer.now a.length c.plan.result (c.plan.ensures.planned, (c.plan.ensures.counted, c.plan.ensures.ready)) c.in-Apply.is c.log_extent-log.ensures
+    work-planned a.buffer.now a.length c.plan.result (c.plan.ensures.planned, (c.plan.ensures.counted, c.plan.ensures.ready)) c.in-Ok.is c.log_extent-log.ensures
 
 pub read-requires : goal.read-requires
 read-requires c =
     let a = c.args in
-    let p = work-planned a.buffer.now a.length c.plan.result (c.plan.ensures.planned, (c.plan.ensures.counted, c.plan.ensures.ready)) c.in-Apply.is c.log_extent-log.ensures in (
+    let p = work-planned a.buffer.now a.length c.plan.result (c.plan.ensures.planned, (c.plan.ensures.counted, c.plan.ensures.ready)) c.in-Ok.is c.log_extent-log.ensures in (
       holds_first a.buffer.now a.length c.log_extent-log.result _ p,
       fits a.buffer.now a.length c.log_extent-log.result _ p c.first_steps.new.buffer c.first_steps.ensures,
     )
 
-pub returns-in-Refused : goal.returns-in-Refused
-returns-in-Refused c =
+pub returns-in-Err : goal.returns-in-Err
+returns-in-Err c =
     let a = c.args in
-    let e = plan-refused a.buffer.now a.length c.plan.result (c.plan.ensures.planned, (c.plan.ensures.counted, c.plan.ensures.ready)) c.in-Refused.is in
-    record { value = refused-answer a.buffer.now a.length _ e c.none.result c.none.ensures; buffer_after = refused-buffer a.buffer.now a.length _ e }
+    let e = plan-refused a.buffer.now a.length c.plan.result (c.plan.ensures.planned, (c.plan.ensures.counted, c.plan.ensures.ready)) c.in-Err.is in
+    record { value = refused-answer a.buffer.now a.length _ e; buffer_after = refused-buffer a.buffer.now a.length _ e }
 
-pub returns-in-Apply : goal.returns-in-Apply
-returns-in-Apply c =
+pub returns-in-Ok : goal.returns-in-Ok
+returns-in-Ok c =
     let a = c.args in
-    let p = work-planned a.buffer.now a.length c.plan.result (c.plan.ensures.planned, (c.plan.ensures.counted, c.plan.ensures.ready)) c.in-Apply.is c.log_extent-log.ensures in record { value = c.read.ensures ∙ answer a.buffer.now a.length c.log_extent-log.result _ p c.first_steps.new.buffer c.first_steps.ensures; buffer_after = buffer a.buffer.now a.length c.log_extent-log.result _ p c.first_steps.new.buffer c.first_steps.ensures }
+    let p = work-planned a.buffer.now a.length c.plan.result (c.plan.ensures.planned, (c.plan.ensures.counted, c.plan.ensures.ready)) c.in-Ok.is c.log_extent-log.ensures in
+    record {
+      value = c.read.ensures ∙ answer a.buffer.now a.length c.log_extent-log.result _ p c.first_steps.new.buffer c.first_steps.ensures;
+      buffer_after = buffer a.buffer.now a.length c.log_extent-log.result _ p c.first_steps.new.buffer c.first_steps.ensures;
+    }

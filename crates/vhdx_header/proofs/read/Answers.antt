@@ -1,8 +1,7 @@
 -- `vhdx_header::read` meets its contract.
 use mathlib.Core.Path.{sym}
-use native.Mathlib.Omega.{arith}
-use borrow.Author.Tests.{le-leb, lt-leb}
-use lib.ListN.{length}
+use borrow.Author.Tests.{le-leb}
+use Rattle.std.proofs.Common.{length, arith, rules}
 use lib.Seq.{length-take-le}
 use Rattle.extent.specs.Extent.{mib}
 use Rattle.vhdx_header.specs.Current.{first_mib, current_header}
@@ -11,15 +10,7 @@ use Rattle.vhdx_header.proofs.read.Goals as goal
 
 pub returns-then-buffer-length : goal.returns-then-buffer-length
 unfolding current_header
-returns-then-buffer-length c =
-    let a = c.args in
-    simp (lt-leb a.length (length a.buffer.now) (omega arith))
-
-pub returns-then-length-lt-MIB : goal.returns-then-length-lt-MIB
-unfolding current_header
-returns-then-length-lt-MIB c =
-    let a = c.args in
-    simp (le-leb a.length (length a.buffer.now) (omega arith), lt-leb mib a.length (omega arith))
+returns-then-buffer-length c = search rules
 
 pub slice_bounds-read_first_mib-end : goal.slice_bounds-read_first_mib-end
 slice_bounds-read_first_mib-end c = sym (length-take-le 1048576 c.args.buffer.now (omega arith))

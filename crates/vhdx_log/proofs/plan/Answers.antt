@@ -1,20 +1,22 @@
 -- `vhdx_log::plan` meets its contract.
-use mathlib.Core.Path.{sym, ap, ◌∙◌}
-use Rattle.vhdx_log.specs.Work.{count}
-use Rattle.vhdx_log.proofs.Answering.{planned, plan-refused}
+use Rattle.std.proofs.Common.{◌≡◌, sym, ◌∙◌, Ok, Err, rules}
+use Rattle.vhdx_log.proofs.Answering.{planned, refused_plan}
 use Rattle.vhdx_log.proofs.plan.Goals as goal
 
 pub with_header-requires : goal.with_header-requires
-with_header-requires c = sym c.read.ensures ∙ c.in-Current.is
+with_header-requires c = search rules
 
-pub returns-in-Refused : goal.returns-in-Refused
-returns-in-Refused c =
+pub returns-in_err-header : goal.returns-in_err-header
+returns-in_err-header c =
     let a = c.args in
-    let r = plan-refused a.buffer.now a.length _ (sym c.read.ensures ∙ c.in-Refused.is) in
-    record { planned = r; counted = ap count r; ready = tt }
+    let same : c.from_residual.result ≡ Err c.in_err-header.field-0.0 = search rules in
+    let was : c.read.result ≡ Err c.in_err-header.field-0.0 = search rules in
+    let p = refused_plan a.buffer.now a.length _ (sym c.read.ensures ∙ was) c.from_residual.result same in
+    record { planned = p.0; counted = p.1; ready = p.2 }
 
-pub returns-in-Current : goal.returns-in-Current
-returns-in-Current c =
+pub returns : goal.returns
+returns c =
     let a = c.args in
-    let p = planned a.buffer.now a.length _ (sym c.read.ensures ∙ c.in-Current.is) c.with_header.result c.with_header.ensures in
+    let was : c.read.result ≡ Ok c.in_ok-header.header = search rules in
+    let p = planned a.buffer.now a.length _ (sym c.read.ensures ∙ was) c.with_header.result c.with_header.ensures in
     record { planned = p.0; counted = p.1; ready = p.2 }

@@ -7,10 +7,10 @@ use Rattle.extent.specs.Extent.{mib}
 use Rattle.vhdx_log.proofs.Answering.{zero_number, log-placed, without, within}
 use Rattle.vhdx_log.proofs.with_header.Goals as goal
 
-pub returns-then-guid : goal.returns-then-guid
-returns-then-guid c =
+pub returns-then-eq : goal.returns-then-eq
+returns-then-eq c =
     let a = c.args in
-    without a.buffer.now a.length a.header c.requires c.without_log.result (length a.buffer.now) (sym (zero_number a.header.log_guid) ∙ c.if-guid.true) c.without_log.ensures
+    without a.buffer.now a.length a.header c.requires c.without_log.result (length a.buffer.now) (sym (zero_number a.header.log_guid) ∙ (sym c.eq.ensures ∙ c.if-eq.true)) c.without_log.ensures
 
 pub with_log-requires : goal.with_log-requires
 with_log-requires c =
@@ -20,4 +20,4 @@ with_log-requires c =
 pub returns : goal.returns
 returns c =
     let a = c.args in
-    within a.buffer.now a.length a.header c.requires c.with_log.result (length a.buffer.now) c.part.result.now c.part.ensures (sym (zero_number a.header.log_guid) ∙ c.if-guid.false) c.with_log.ensures
+    within a.buffer.now a.length a.header c.requires c.with_log.result (length a.buffer.now) c.part.result.now c.part.ensures (sym (zero_number a.header.log_guid) ∙ (sym c.eq.ensures ∙ c.if-eq.false)) c.with_log.ensures

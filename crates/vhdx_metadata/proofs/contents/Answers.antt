@@ -2,7 +2,7 @@
 use native.Mathlib.Omega.{arith}
 use Rattle.vhdx_metadata.specs.Known.{known_lengths}
 use Rattle.vhdx_metadata.specs.Items.{contents}
-use Rattle.vhdx_metadata.proofs.Laws.{table_kept, readable}
+use Rattle.vhdx_metadata.proofs.Laws.{table_kept, fixed_length, readable}
 use Rattle.vhdx_metadata.proofs.contents.Goals as goal
 
 pub has_parent-has_parent-requires : goal.has_parent-has_parent-requires
@@ -16,7 +16,7 @@ bytes-parameters-requires c =
 
 pub u32_at-requires : goal.u32_at-requires
 unfolding known_lengths
-u32_at-requires c = omega (arith, c.bytes-parameters.ensures.len)
+u32_at-requires c = omega (arith, fixed_length c.bytes-parameters.ensures.len)
 
 pub bytes-requires : goal.bytes-requires
 bytes-requires c =
@@ -24,7 +24,7 @@ bytes-requires c =
 
 pub u64_at-requires : goal.u64_at-requires
 unfolding known_lengths
-u64_at-requires c = omega (arith, c.bytes.ensures.len)
+u64_at-requires c = omega (arith, fixed_length c.bytes.ensures.len)
 
 pub bytes-requires-2 : goal.bytes-requires-2
 bytes-requires-2 c =
@@ -32,7 +32,7 @@ bytes-requires-2 c =
 
 pub u32_at-requires-2 : goal.u32_at-requires-2
 unfolding known_lengths
-u32_at-requires-2 c = omega (arith, c.bytes-2.ensures.len)
+u32_at-requires-2 c = omega (arith, fixed_length c.bytes-2.ensures.len)
 
 pub bytes-requires-3 : goal.bytes-requires-3
 bytes-requires-3 c =
@@ -40,7 +40,7 @@ bytes-requires-3 c =
 
 pub u32_at-requires-3 : goal.u32_at-requires-3
 unfolding known_lengths
-u32_at-requires-3 c = omega (arith, c.bytes-3.ensures.len)
+u32_at-requires-3 c = omega (arith, fixed_length c.bytes-3.ensures.len)
 
 pub bytes-requires-4 : goal.bytes-requires-4
 bytes-requires-4 c =
@@ -48,7 +48,7 @@ bytes-requires-4 c =
 
 pub guid_at-requires : goal.guid_at-requires
 unfolding known_lengths
-guid_at-requires c = omega (arith, c.bytes-4.ensures.len)
+guid_at-requires c = omega (arith, fixed_length c.bytes-4.ensures.len)
 
 pub extent-requires : goal.extent-requires
 extent-requires c =

@@ -9,8 +9,8 @@ use Rattle.vhdx_parent.proofs.in_locator.Goals as goal
 pub from_start-requires : goal.from_start-requires
 from_start-requires c =
     let offset = ap (λ (x : Extent). x.offset) c.value.ensures in
-    omega (arith, offset, c.part.ensures.len, value-inside c.part.result.now c.args.key.now, c.requires, c.well_formed)
+    omega (arith, offset, c.part-item.ensures.len, value-inside c.part-item.result.now c.args.key.now, c.requires, c.well_formed)
 
 pub returns : goal.returns
 unfolding in_locator
-returns c = simp (c.from_start.ensures, c.value.ensures, c.part.ensures.bytes)
+returns c = simp (c.from_start.ensures, c.value.ensures, c.part-item.ensures.bytes)

@@ -8,7 +8,7 @@ use Rattle.vhdx_pieces_entry.proofs.on_data.Goals as goal
 pub settled-requires : goal.settled-requires
 settled-requires c =
     let a = c.args in
-    subst (Sized a.n) (sym c.past.ensures) (past-sized a.n a.x 0 0 a.s.now c.requires.2.sized (omega arith) (omega arith))
+    subst (Sized a.n) (sym c.past.ensures) (past-sized a.n a.x 0 0 a.s.now c.requires.1.sized (omega arith) (omega arith))
 
 pub returns-then-is_data_sector : goal.returns-then-is_data_sector
 unfolding on_data

@@ -2,4 +2,4 @@
 use Rattle.vhdx_pieces_header.proofs.read_one.Goals as goal
 
 pub returns : goal.returns
-returns c = simp (c.keep_rules.ensures, c.is_valid.ensures, c.contents-header.ensures)
+returns c = simp (c.keep_rules.ensures, c.is_valid.ensures, c.contents.ensures)

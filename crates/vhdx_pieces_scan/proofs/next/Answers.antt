@@ -9,24 +9,24 @@ use Rattle.vhdx_pieces_scan.proofs.Advancing.{scan-advances}
 use Rattle.vhdx_pieces_scan.proofs.next.Goals as goal
 
 pub first-requires : goal.first-requires
-first-requires c = (c.requires.1, omega (arith, c.requires.0.upright.few))
+first-requires c = omega (arith, c.requires.upright.few)
 
 pub progress-requires : goal.progress-requires
-progress-requires c = c.requires.0.upright
+progress-requires c = c.requires.upright
 
 pub further-requires : goal.further-requires
 further-requires c =
     let s = c.args.s in
-    (c.requires.1, omega (arith, c.requires.0.upright.few), subst (Staged s.place.pos.len) c.in-Inside.is c.requires.0.staged)
+    (omega (arith, c.requires.upright.few), subst (Staged s.place.pos.len) c.in-Inside.is c.requires.staged)
 
 pub progress-requires-in-Inside : goal.progress-requires-in-Inside
-progress-requires-in-Inside c = c.requires.0.upright
+progress-requires-in-Inside c = c.requires.upright
 
 pub take-requires : goal.take-requires
 take-requires c =
     let s = c.args.s in
-    let k = subst (Staged s.place.pos.len) c.in-Tail.is c.requires.0.staged in
-    (c.requires.0.upright, k.1, k.2, c.requires.1)
+    let k = subst (Staged s.place.pos.len) c.in-Tail.is c.requires.staged in
+    (c.requires.upright, k.1, k.2)
 
 pub returns-in-First : goal.returns-in-First
 unfolding step_of
@@ -36,7 +36,7 @@ returns-in-First c =
     also (Onward s.place.pos.len)
     (c.progress.ensures ∙ ap (progressed s.place.pos.len s.place.count (state_of s.trace)) c.first.ensures.value
     ∙ sym (ap (λ (x : Stage). step_in a.guid s.place.pos.len s.place.count (state_of s.trace) x a.sector.now) c.in-First.is))
-    (scan-advances a.guid s a.sector.now c.requires.0).0
+    (scan-advances a.guid s a.sector.now c.requires).0
 
 pub returns-in-Inside : goal.returns-in-Inside
 unfolding step_of
@@ -46,7 +46,7 @@ returns-in-Inside c =
     also (Onward s.place.pos.len)
     (c.progress-in-Inside.ensures ∙ ap (progressed s.place.pos.len s.place.count (state_of s.trace)) c.further.ensures.value
     ∙ sym (ap (λ (x : Stage). step_in a.guid s.place.pos.len s.place.count (state_of s.trace) x a.sector.now) c.in-Inside.is))
-    (scan-advances a.guid s a.sector.now c.requires.0).0
+    (scan-advances a.guid s a.sector.now c.requires).0
 
 pub returns-in-Tail : goal.returns-in-Tail
 unfolding step_of
@@ -56,4 +56,4 @@ returns-in-Tail c =
     also (Onward s.place.pos.len)
     (c.take.ensures
     ∙ sym (ap (λ (x : Stage). step_in a.guid s.place.pos.len s.place.count (state_of s.trace) x a.sector.now) c.in-Tail.is))
-    (scan-advances a.guid s a.sector.now c.requires.0).0
+    (scan-advances a.guid s a.sector.now c.requires).0

@@ -5,7 +5,7 @@ use Rattle.vhdx_pieces_scan.proofs.Turns.{on-ring, may-take, asked-moved, resume
 use Rattle.vhdx_pieces_scan.proofs.take.Goals as goal
 
 pub take_by-after-requires : goal.take_by-after-requires
-take_by-after-requires c = (c.requires.3, may-take c.requires.0 c.requires.1 c.requires.2)
+take_by-after-requires c = may-take c.requires.0 c.requires.1 c.requires.2
 
 pub advance-requires : goal.advance-requires
 advance-requires c = (on-ring c.requires.0, c.requires.1, omega (arith, c.requires.0.few, c.requires.0.laps, c.requires.1))

@@ -11,27 +11,27 @@ use Rattle.vhdx_pieces_walk.proofs.meet.Goals as goal
 pub overflow_add-sectors : goal.overflow_add-sectors
 overflow_add-sectors c = let w = c.args.w in record { fits = omega (arith, c.sectors.ensures, c.requires.0.front, c.requires.0.size, c.requires.0.standing.few, c.requires.0.rank, c.requires.0.index, c.requires.0.small) }
 
-pub returns-then-sectors-w : goal.returns-then-sectors-w
-returns-then-sectors-w c =
+pub returns-then-not-is_allowed : goal.returns-then-not-is_allowed
+returns-then-not-is_allowed c =
     let a = c.args in
-    let ok = ap₂ (λ (x y : ℕ). allowed a.b x y) (sym c.file_offset-offset.ensures) (sym c.run_length-n.ensures) ∙ sym c.is_allowed.ensures ∙ c.if-is_allowed.true in
-    let short : descriptor_sectors a.w.count + a.w.data < a.w.size = omega (arith, c.sectors.ensures, c.if-sectors-w.true) in
-    simp (c.beyond.ensures, c.u32_at.ensures, c.u64_at.ensures, c.file_offset-offset.ensures) (met-data a.b a.w a.d.now ok (sym c.is_data.ensures ∙ c.if-is_data.true) (lt-ltb _ _ short))
-
-pub returns-else-sectors-w : goal.returns-else-sectors-w
-returns-else-sectors-w c =
-    let a = c.args in
-    let ok = ap₂ (λ (x y : ℕ). allowed a.b x y) (sym c.file_offset-offset.ensures) (sym c.run_length-n.ensures) ∙ sym c.is_allowed.ensures ∙ c.if-is_allowed.true in
-    met-short a.b a.w a.d.now ok (sym c.is_data.ensures ∙ c.if-is_data.true) (le-ltb (descriptor_sectors a.w.count + a.w.data) a.w.size (omega (arith, c.sectors.ensures, c.if-sectors-w.false)))
-
-pub returns-else-is_data : goal.returns-else-is_data
-returns-else-is_data c =
-    let a = c.args in
-    let ok = ap₂ (λ (x y : ℕ). allowed a.b x y) (sym c.file_offset-offset.ensures) (sym c.run_length-n.ensures) ∙ sym c.is_allowed.ensures ∙ c.if-is_allowed.true in
-    simp (c.beyond-else-is_data.ensures, c.file_offset-offset.ensures, c.run_length-n.ensures) (met-zeros a.b a.w a.d.now ok (sym c.is_data.ensures ∙ c.if-is_data.false))
-
-pub returns-else-is_allowed : goal.returns-else-is_allowed
-returns-else-is_allowed c =
-    let a = c.args in
-    let no = ap₂ (λ (x y : ℕ). allowed a.b x y) (sym c.file_offset-offset.ensures) (sym c.run_length-n.ensures) ∙ sym c.is_allowed.ensures ∙ c.if-is_allowed.false in
+    let no = ap₂ (λ (x y : ℕ). allowed a.b x y) (sym c.file_offset-offset.ensures) (sym c.run_length-n.ensures) ∙ sym c.is_allowed.ensures ∙ c.if-not-is_allowed.true in
     met-nothing a.b a.w a.d.now no
+
+pub returns-then-not-is_data : goal.returns-then-not-is_data
+returns-then-not-is_data c =
+    let a = c.args in
+    let ok = ap₂ (λ (x y : ℕ). allowed a.b x y) (sym c.file_offset-offset.ensures) (sym c.run_length-n.ensures) ∙ sym c.is_allowed.ensures ∙ c.if-not-is_allowed.false in
+    simp (c.file_offset-offset.ensures, c.run_length-n.ensures) (met-zeros a.b a.w a.d.now ok (sym c.is_data.ensures ∙ c.if-not-is_data.true))
+
+pub returns-then-w-sectors : goal.returns-then-w-sectors
+returns-then-w-sectors c =
+    let a = c.args in
+    let ok = ap₂ (λ (x y : ℕ). allowed a.b x y) (sym c.file_offset-offset.ensures) (sym c.run_length-n.ensures) ∙ sym c.is_allowed.ensures ∙ c.if-not-is_allowed.false in
+    met-short a.b a.w a.d.now ok (sym c.is_data.ensures ∙ c.if-not-is_data.false) (le-ltb (descriptor_sectors a.w.count + a.w.data) a.w.size (omega (arith, c.sectors.ensures, c.if-w-sectors.true)))
+
+pub returns : goal.returns
+returns c =
+    let a = c.args in
+    let ok = ap₂ (λ (x y : ℕ). allowed a.b x y) (sym c.file_offset-offset.ensures) (sym c.run_length-n.ensures) ∙ sym c.is_allowed.ensures ∙ c.if-not-is_allowed.false in
+    let short : descriptor_sectors a.w.count + a.w.data < a.w.size = omega (arith, c.sectors.ensures, c.if-w-sectors.false) in
+    simp (c.u32_at.ensures, c.u64_at.ensures, c.file_offset-offset.ensures) (met-data a.b a.w a.d.now ok (sym c.is_data.ensures ∙ c.if-not-is_data.false) (lt-ltb _ _ short))

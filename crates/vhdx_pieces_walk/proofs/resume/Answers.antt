@@ -5,7 +5,7 @@ use Rattle.vhdx_pieces_walk.proofs.resume.Goals as goal
 
 pub returns-then-w : goal.returns-then-w
 unfolding resumed
-returns-then-w c = simp (c.with.ensures, lt-ltb _ _ c.if-w.true)
+returns-then-w c = simp (lt-ltb _ _ c.if-w.true)
 
 pub returns-then-w-gt1 : goal.returns-then-w-gt1
 unfolding resumed

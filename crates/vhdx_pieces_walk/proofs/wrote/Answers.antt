@@ -18,8 +18,8 @@ pub resume-requires : goal.resume-requires
 resume-requires c =
     (subst (WritingIn c.requires.0 c.args.w) c.in-Sector.is c.requires.1).0
 
-pub overflow_add-span : goal.overflow_add-span
-overflow_add-span c =
+pub overflow_add-result : goal.overflow_add-result
+overflow_add-result c =
     let s = subst (WritingIn c.requires.0 c.args.w) c.in-Zeros.is c.requires.1 in
     record { fits = omega (arith, (allowed-is c.requires.0 c.in-Zeros.span.offset c.in-Zeros.span.length s.2).0, c.requires.2, c.if-span-gt4096.true) }
 
@@ -35,22 +35,10 @@ pub returns-then-span-gt4096 : goal.returns-then-span-gt4096
 unfolding wrote_of
 returns-then-span-gt4096 c =
     let w = c.args.w in
-    onward w (simp (c.with.ensures, c.in-Zeros.is, lt-ltb _ _ c.if-span-gt4096.true))
+    onward w (simp (c.in-Zeros.is, lt-ltb _ _ c.if-span-gt4096.true))
 
 pub returns-else-span-gt4096 : goal.returns-else-span-gt4096
 unfolding wrote_of
 returns-else-span-gt4096 c =
     let w = c.args.w in
     onward w (c.resume-else-span-gt4096.ensures ∙ simp (c.in-Zeros.is, le-ltb _ _ c.if-span-gt4096.false))
-
-pub returns-in-Header : goal.returns-in-Header
-unfolding wrote_of
-returns-in-Header c = let w = c.args.w in onward w (sym (ap (wrote_in w) c.in-Header.is))
-
-pub returns-in-Descriptors : goal.returns-in-Descriptors
-unfolding wrote_of
-returns-in-Descriptors c = let w = c.args.w in onward w (sym (ap (wrote_in w) c.in-Descriptors.is))
-
-pub returns-in-Data : goal.returns-in-Data
-unfolding wrote_of
-returns-in-Data c = let w = c.args.w in onward w (sym (ap (wrote_in w) c.in-Data.is))

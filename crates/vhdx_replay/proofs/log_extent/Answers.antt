@@ -3,10 +3,10 @@ use mathlib.Core.Path.{sym, ap, ◌∙◌}
 use Rattle.vhdx_replay.specs.Planned.{extent_by, log_extent}
 use Rattle.vhdx_replay.proofs.log_extent.Goals as goal
 
-pub returns-in-Refused : goal.returns-in-Refused
+pub returns-in-Err : goal.returns-in-Err
 unfolding log_extent
-returns-in-Refused c = c.nowhere.ensures ∙ ap extent_by (sym c.in-Refused.is ∙ c.read.ensures)
+returns-in-Err c = c.nowhere.ensures ∙ ap extent_by (sym c.in-Err.is ∙ c.read.ensures)
 
-pub returns-in-Current : goal.returns-in-Current
+pub returns-in-Ok : goal.returns-in-Ok
 unfolding log_extent
-returns-in-Current c = ap extent_by (sym c.in-Current.is ∙ c.read.ensures)
+returns-in-Ok c = ap extent_by (sym c.in-Ok.is ∙ c.read.ensures)

@@ -18,28 +18,28 @@ pub take-trace-requires : goal.take-trace-requires
 take-trace-requires c =
     -- the place is on one of two laps, and its position is one of the log's ring
     let turn = within c.loop-guid.invariant (sym c.goes_on.ensures ∙ c.loop-guid-test.true) in
-    takes c.loop-guid.invariant turn.1 c.read.ensures c.in-Valid.is turn.0
+    takes c.loop-guid.invariant turn.1 c.read.ensures c.in-Some.is turn.0
 
 pub advance-place-requires : goal.advance-place-requires
 advance-place-requires c =
     -- the place is on one of two laps, and its position is one of the log's ring
     let turn = within c.loop-guid.invariant (sym c.goes_on.ensures ∙ c.loop-guid-test.true) in
-    (turn.1.0, (sized-here c.loop-guid.invariant turn.1 c.read.ensures c.in-Valid.is).1, (takes c.loop-guid.invariant turn.1 c.read.ensures c.in-Valid.is turn.0).taking.countable)
+    (turn.1.0, (sized-here c.loop-guid.invariant turn.1 c.read.ensures c.in-Some.is).1, (takes c.loop-guid.invariant turn.1 c.read.ensures c.in-Some.is turn.0).taking.countable)
 
-pub loop-guid-smaller-in-Valid : goal.loop-guid-smaller-in-Valid
-loop-guid-smaller-in-Valid c =
+pub loop-guid-smaller-in-Some : goal.loop-guid-smaller-in-Some
+loop-guid-smaller-in-Some c =
     -- the place is on one of two laps, and its position is one of the log's ring
     let turn = within c.loop-guid.invariant (sym c.goes_on.ensures ∙ c.loop-guid-test.true) in
-    omega (arith, ap (λ (p : Place). p.count) c.advance-place.ensures, sized-here c.loop-guid.invariant turn.1 c.read.ensures c.in-Valid.is, turn.0)
+    omega (arith, ap (λ (p : Place). p.count) c.advance-place.ensures, sized-here c.loop-guid.invariant turn.1 c.read.ensures c.in-Some.is, turn.0)
 
-pub loop-guid-preserved-in-Valid : goal.loop-guid-preserved-in-Valid
-loop-guid-preserved-in-Valid c =
+pub loop-guid-preserved-in-Some : goal.loop-guid-preserved-in-Some
+loop-guid-preserved-in-Some c =
     -- the place is on one of two laps, and its position is one of the log's ring
     let turn = within c.loop-guid.invariant (sym c.goes_on.ensures ∙ c.loop-guid-test.true) in
-    turn-valid c.loop-guid.invariant turn.1 c.read.ensures c.in-Valid.is c.take-trace.ensures.state c.take-trace.ensures.placed c.advance-place.ensures
+    turn-valid c.loop-guid.invariant turn.1 c.read.ensures c.in-Some.is c.take-trace.ensures.state c.take-trace.ensures.placed c.advance-place.ensures
 
-pub advance-place-requires-in-Empty : goal.advance-place-requires-in-Empty
-advance-place-requires-in-Empty c =
+pub advance-place-requires-in-None : goal.advance-place-requires-in-None
+advance-place-requires-in-None c =
     -- the place is on one of two laps, and its position is one of the log's ring
     let turn = within c.loop-guid.invariant (sym c.goes_on.ensures ∙ c.loop-guid-test.true) in
     (turn.1.0, omega (arith, turn.1.0), omega (arith, turn.0, c.loop-guid.invariant.few))
@@ -48,10 +48,10 @@ pub loop-guid-smaller : goal.loop-guid-smaller
 loop-guid-smaller c =
     -- the place is on one of two laps, and its position is one of the log's ring
     let turn = within c.loop-guid.invariant (sym c.goes_on.ensures ∙ c.loop-guid-test.true) in
-    omega (arith, ap (λ (p : Place). p.count) c.advance-place-in-Empty.ensures, turn.0)
+    omega (arith, ap (λ (p : Place). p.count) c.advance-place-in-None.ensures, turn.0)
 
 pub loop-guid-preserved : goal.loop-guid-preserved
-loop-guid-preserved c = turn-empty c.loop-guid.invariant c.read.ensures c.in-Empty.is c.advance-place-in-Empty.ensures
+loop-guid-preserved c = turn-empty c.loop-guid.invariant c.read.ensures c.in-None.is c.advance-place-in-None.ensures
 
 pub returns : goal.returns
 returns c = finished c.loop-guid.invariant (sym c.goes_on.ensures ∙ c.loop-guid-test.false)

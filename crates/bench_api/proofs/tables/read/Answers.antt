@@ -9,9 +9,9 @@ use Rattle.bench_api.proofs.tables.read.Goals as goal
 pub returns-then-image-lt1048576 : goal.returns-then-image-lt1048576
 unfolding reading_of
 returns-then-image-lt1048576 c =
-    simp (c.none.ensures, lt-leb mib (length c.args.image.now) (omega arith))
+    simp (lt-leb mib (length c.args.image.now) (omega arith))
 
-pub returns-else-image-lt1048576 : goal.returns-else-image-lt1048576
+pub returns : goal.returns
 unfolding reading_of
-returns-else-image-lt1048576 c =
+returns c =
     simp (c.read.ensures, le-leb mib (length c.args.image.now) (omega arith))

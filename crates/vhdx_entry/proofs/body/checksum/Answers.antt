@@ -30,8 +30,7 @@ loop-k-init c =
       on,
       omega arith,
       omega arith,
-      omega arith,
-      c.start_zeroed-state.ensures ∙ ap (λ (s : List ℕ). updates ones (zeroed s 4)) (c.sector.ensures.bytes ∙ sym (sector-first a.log.now a.pos.len a.pos.at on.1 on.0)),
+      c.start_zeroed-state.ensures ∙ ap (λ (s : List ℕ). updates ones (zeroed s 4)) (c.sector.ensures ∙ sym (sector-first a.log.now a.pos.len a.pos.at on.1 on.0)),
     )
 
 pub loop-k-preserved : goal.loop-k-preserved
@@ -43,9 +42,9 @@ loop-k-preserved c =
     let r = ring a.log.now a.pos.at in
     let long : length r ≡ a.pos.len * 4096 = length-ring a.log.now a.pos.len a.pos.at on.1 on.0 ∙ on.1 in
     let read : c.sector-in-loop-k.result.now ≡ sector_at r k =
-    c.sector-in-loop-k.ensures.bytes ∙ ap (λ (p : RingPos). sector_at a.log.now p.at) c.advance.ensures.value
+    c.sector-in-loop-k.ensures ∙ ap (λ (p : RingPos). sector_at a.log.now p.at) c.advance.ensures.value
     ∙ sym (sector-on a.log.now a.pos.len a.pos.at on.1 on.0 k (omega arith)) in
-    (on, omega arith, omega arith, inv.3, c.update-state.ensures ∙ next r k (omega arith) inv.4 read)
+    (on, omega arith, inv.2, c.update-state.ensures ∙ next r k (omega arith) inv.3 read)
 
 pub returns : goal.returns
 unfolding crc
@@ -53,4 +52,4 @@ returns c = let inv = c.loop-k.invariant in
     let a = c.args in
     c.finish.ensures
     ∙ ap (λ (x : ℕ). bit_xor x ones)
-    (inv.4 ∙ ap (over a.log.now a.pos.at) {x = c.loop-k.k} {y = a.sectors} (omega (arith, c.loop-k-test.false)))
+    (inv.3 ∙ ap (over a.log.now a.pos.at) {x = c.loop-k.k} {y = a.sectors} (omega arith))

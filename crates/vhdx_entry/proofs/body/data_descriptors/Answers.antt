@@ -2,7 +2,7 @@
 use mathlib.Core.Path.{◌≡◌, sym, ap, ◌∙◌}
 use mathlib.Core.Bool.{Bool, true, false, cond}
 use mathlib.Core.List.{List}
-use mathlib.Core.Option.{Option, some}
+use Rattle.std.specs.Prelude.{Some}
 use Prim.Native.Nat.{ℕ, ◌+◌, ◌≤◌}
 use native.Mathlib.Omega.{arith}
 use Rattle.decision.specs.Bounded.{every, only_if}
@@ -28,8 +28,8 @@ returns-then-not-keeps_rule c =
     let i = c.loop-i.i in
     let f = all_rules a.log.now a.pos.at a.number in
     let no : f i ≡ false =
-    ap (descriptor_rule a.number) (sym c.at-d.ensures.bytes) ∙ sym c.keeps_rule.ensures ∙ c.if-not-keeps_rule.true in
-    sym (ap (λ (x : Bool). only_if {A = ℕ} x (data_before (ring a.log.now a.pos.at) a.count)) (every-not f i a.count (omega (arith, c.loop-i-test.true)) no))
+    ap (descriptor_rule a.number) (sym c.at-d.ensures) ∙ sym c.keeps_rule.ensures ∙ c.if-not-keeps_rule.true in
+    sym (ap (λ (x : Bool). only_if {A = ℕ} x (data_before (ring a.log.now a.pos.at) a.count)) (every-not f i a.count (omega arith) no))
 
 pub loop-i-preserved : goal.loop-i-preserved
 loop-i-preserved c =
@@ -37,17 +37,16 @@ loop-i-preserved c =
     let a = c.args in
     let i = c.loop-i.i in
     let r = ring a.log.now a.pos.at in
-    let same = c.at-d.ensures.bytes in
+    let same = c.at-d.ensures in
     let yes : all_rules a.log.now a.pos.at a.number i ≡ true =
     ap (descriptor_rule a.number) (sym same) ∙ sym c.keeps_rule.ensures ∙ c.if-not-keeps_rule.false in
     let more = c.counted-found.ensures ∙ ap (λ (d : List ℕ). c.loop-i.found + cond (is_data_descriptor d) 1 0) same in (
       inv.0,
       inv.1,
-      omega (arith, c.loop-i-test.true),
-      inv.3,
-      every_more (all_rules a.log.now a.pos.at a.number) i inv.4 yes,
-      more ∙ ap (λ (x : ℕ). x + cond (is_data_descriptor (descriptor r i)) 1 0) inv.5 ∙ sym (data-more r i),
-      at_most_one (is_data_descriptor (descriptor r i)) more inv.6,
+      inv.2,
+      every_more (all_rules a.log.now a.pos.at a.number) i inv.3 yes,
+      more ∙ ap (λ (x : ℕ). x + cond (is_data_descriptor (descriptor r i)) 1 0) inv.4 ∙ sym (data-more r i),
+      at_most_one (is_data_descriptor (descriptor r i)) more inv.5,
     )
 
 pub returns : goal.returns
@@ -55,6 +54,6 @@ returns c =
     let inv = c.loop-i.invariant in
     let a = c.args in
     let f = all_rules a.log.now a.pos.at a.number in
-    let end : c.loop-i.i ≡ a.count = omega (arith, c.loop-i-test.false) in
-    ap {B = Option ℕ} some (inv.5 ∙ ap (data_before (ring a.log.now a.pos.at)) end)
-    ∙ sym (ap (λ (x : Bool). only_if {A = ℕ} x (data_before (ring a.log.now a.pos.at) a.count)) (sym (ap (λ (m : ℕ). every m f) end) ∙ inv.4))
+    let end : c.loop-i.i ≡ a.count = omega arith in
+    ap Some (inv.4 ∙ ap (data_before (ring a.log.now a.pos.at)) end)
+    ∙ sym (ap (λ (x : Bool). only_if {A = ℕ} x (data_before (ring a.log.now a.pos.at) a.count)) (sym (ap (λ (m : ℕ). every m f) end) ∙ inv.3))

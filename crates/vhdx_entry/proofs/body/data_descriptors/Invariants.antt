@@ -2,7 +2,7 @@
 use mathlib.Core.Path.{◌≡◌}
 use mathlib.Core.Bool.{Bool, true}
 use mathlib.Core.List.{List}
-use Prim.Native.Nat.{ℕ, ◌-◌, ◌≤◌, ◌<◌}
+use Prim.Native.Nat.{ℕ, ◌≤◌, ◌<◌}
 use lib.ListN.{length}
 use Rattle.decision.specs.Bounded.{every}
 use Rattle.vhdx_entry.specs.Ring.{ring, On}
@@ -14,8 +14,5 @@ all_rules log s number i = descriptor_rule number (descriptor (ring log s) i)
 
 abbrev pub invariant-loop-i : goal.invariant-loop-i
 invariant-loop-i l =
-    On l.log l.pos × (descriptor_start l.count ≤ length l.log) × (l.i ≤ l.count) × (l.count < 4294967296)
+    On l.log l.pos × (descriptor_start l.count ≤ length l.log) × (l.count < 4294967296)
     × (every l.i (all_rules l.log l.pos.at l.number) ≡ true) × (l.found ≡ data_before (ring l.log l.pos.at) l.i) × (l.found ≤ l.i)
-
-abbrev pub decreases-loop-i : goal.decreases-loop-i
-decreases-loop-i l = l.count - l.i

@@ -4,11 +4,6 @@ use Prim.Native.Nat.{ℕ, ◌/◌}
 use Rattle.vhdx_facts.proofs.Laws.{sizes, sector-size-else}
 use Rattle.vhdx_facts.proofs.geometry.sectors.Goals as goal
 
-pub returns-then-facts-eq512 : goal.returns-then-facts-eq512
-returns-then-facts-eq512 c =
-    let f = c.args.facts in
-    ap (λ (l : ℕ). f.disk_size / l) (sym c.if-facts-eq512.true)
-
 pub returns-else-facts-eq512 : goal.returns-else-facts-eq512
 returns-else-facts-eq512 c =
     let f = c.args.facts in

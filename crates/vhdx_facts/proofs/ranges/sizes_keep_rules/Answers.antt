@@ -1,22 +1,12 @@
 -- `vhdx_facts::ranges::sizes_keep_rules` meets its contract: it has the definition's tests.
-use mathlib.Core.Path.{sym, ◌∙◌}
+use Rattle.std.proofs.Common.{rules}
 use Rattle.vhdx_facts.specs.Ranges.{sizes_rule}
 use Rattle.vhdx_facts.proofs.ranges.sizes_keep_rules.Goals as goal
 
-pub returns-then-not-is_sector_size : goal.returns-then-not-is_sector_size
+pub returns-then-is_block_size : goal.returns-then-is_block_size
 unfolding sizes_rule
-returns-then-not-is_sector_size c = simp (sym c.is_sector_size.ensures ∙ c.if-not-is_sector_size.true)
+returns-then-is_block_size c = search rules
 
-pub is_disk_size-requires : goal.is_disk_size-requires
-is_disk_size-requires c =
-    sym c.is_sector_size.ensures ∙ c.if-not-is_sector_size.false
-
-pub returns : goal.returns
+pub returns-else-is_block_size : goal.returns-else-is_block_size
 unfolding sizes_rule
-returns c =
-    simp (
-      sym c.is_sector_size.ensures ∙ c.if-not-is_sector_size.false,
-      c.is_disk_size.ensures,
-      c.is_block_size.ensures,
-      c.is_sector_size-2.ensures,
-    )
+returns-else-is_block_size c = search rules

@@ -11,6 +11,6 @@ returns c =
       c.sequence_number.ensures,
       c.is_valid-2.ensures,
       c.is_valid.ensures,
-      c.header_at-second.ensures.bytes,
-      c.header_at-first.ensures.bytes,
+      c.header_at-second.ensures,
+      c.header_at-first.ensures,
     )

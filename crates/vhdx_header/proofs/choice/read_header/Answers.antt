@@ -6,10 +6,10 @@ use Rattle.vhdx_header.proofs.choice.read_header.Goals as goal
 pub returns-then-keep_rules : goal.returns-then-keep_rules
 unfolding read_header
 returns-then-keep_rules c =
-    let h = c.header_at-h.ensures.bytes in
+    let h = c.header_at-h.ensures in
     simp (c.contents.ensures, sym c.keep_rules.ensures ∙ c.if-keep_rules.true, ← h)
 
 pub returns-else-keep_rules : goal.returns-else-keep_rules
 unfolding read_header
 returns-else-keep_rules c =
-    simp (← c.header_at-h.ensures.bytes, sym c.keep_rules.ensures ∙ c.if-keep_rules.false)
+    simp (← c.header_at-h.ensures, sym c.keep_rules.ensures ∙ c.if-keep_rules.false)

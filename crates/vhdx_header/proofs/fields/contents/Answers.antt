@@ -7,7 +7,7 @@ returns c =
     record {
       slot = c.args.slot;
       sequence_number = c.sequence_number.ensures i;
-      log_guid = c.guid_at-log_guid.ensures i;
+      log_guid = c.guid_at.ensures i;
       log_offset = c.u64_at.ensures i;
       log_length = c.u32_at.ensures i;
     }

@@ -1,6 +1,7 @@
 -- `vhdx_log::decide::without_log` meets its contract.
 use mathlib.Core.Path.{sym, ◌∙◌}
 use mathlib.Core.List.{[]}
+use Rattle.decision.specs.declared.Refusal.TheVariants.{FinalLength}
 use Rattle.vhdx_log.specs.Work.{apply_within}
 use Rattle.vhdx_log.proofs.Answering.{refusal, no-log}
 use Rattle.vhdx_log.proofs.decide.without_log.Goals as goal
@@ -10,5 +11,5 @@ returns-then-is_within c = λ log. no-log log c.args.length c.args.capacity (sym
 
 pub returns-else-is_within : goal.returns-else-is_within
 returns-else-is_within c = λ log.
-    refusal log 8 (apply_within c.args.capacity c.args.length [])
+    refusal log FinalLength (apply_within c.args.capacity c.args.length [])
     (rw (sym c.is_within.ensures ∙ c.if-is_within.false))

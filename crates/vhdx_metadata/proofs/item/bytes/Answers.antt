@@ -1,5 +1,5 @@
 -- `vhdx_metadata::item::bytes` meets its contract: an item that is there lies inside the region.
-use mathlib.Core.Path.{ap, ◌∙◌}
+use Rattle.std.proofs.Common.{ap, sym, ◌∙◌, ℕ, Some}
 use native.Mathlib.Omega.{arith}
 use Rattle.extent.specs.declared.Extent.{Extent}
 use Rattle.extent.specs.Extent.{part}
@@ -18,4 +18,7 @@ part-requires c =
 pub returns : goal.returns
 unfolding item_of
 returns c =
-    let e = c.extent.ensures in record { bytes = c.part.ensures.bytes ∙ ap (part c.args.region.now) e; len = c.part.ensures.len ∙ ap (λ (x : Extent). x.length) e ∙ extent-fixed c.args.region.now c.args.row c.requires.2 c.requires.3 }
+    let r = c.args.region.now in
+    let e = c.extent.ensures in
+    let long = c.part.ensures.len ∙ ap (λ (x : Extent). x.length) e in
+    record { bytes = c.part.ensures.bytes ∙ ap (part r) e; len = extent-fixed r c.args.row c.requires.2 c.requires.3 ∙ ap (λ (n : ℕ). Some n) (sym long) }

@@ -2,7 +2,7 @@
 use mathlib.Core.Path.{sym, ◌∙◌}
 use native.Mathlib.Omega.{arith}
 use Rattle.decision.proofs.Laws.{every-at}
-use Rattle.vhdx_metadata.specs.Items.{is_there, needed_rule}
+use Rattle.vhdx_metadata.specs.Items.{is_there}
 use Rattle.vhdx_metadata.proofs.Laws.{table_kept}
 use Rattle.vhdx_metadata.proofs.item.needed_are_there.Goals as goal
 
@@ -10,32 +10,11 @@ pub five_are_there-requires : goal.five_are_there-requires
 five_are_there-requires c =
     (omega arith, table_kept c.args.region.now c.requires.1)
 
-pub returns-then-not-five_are_there : goal.returns-then-not-five_are_there
-unfolding needed_rule
-returns-then-not-five_are_there c = simp (sym c.five_are_there.ensures ∙ c.if-not-five_are_there.true)
-
 pub has_parent-requires : goal.has_parent-requires
 has_parent-requires c =
-    let five = sym c.five_are_there.ensures ∙ c.if-not-five_are_there.false in
+    let five = sym c.five_are_there.ensures ∙ c.if-five_are_there.true in
     (omega arith, c.requires.1, every-at (is_there c.args.region.now) 5 0 five (omega arith))
 
 pub is_there-requires : goal.is_there-requires
 is_there-requires c =
     (omega arith, table_kept c.args.region.now c.requires.1, omega arith)
-
-pub returns-then-has_parent : goal.returns-then-has_parent
-unfolding needed_rule
-returns-then-has_parent c =
-    simp (
-      c.is_there.ensures,
-      sym c.has_parent.ensures ∙ c.if-has_parent.true,
-      sym c.five_are_there.ensures ∙ c.if-not-five_are_there.false,
-    )
-
-pub returns-else-has_parent : goal.returns-else-has_parent
-unfolding needed_rule
-returns-else-has_parent c =
-    simp (
-      sym c.has_parent.ensures ∙ c.if-has_parent.false,
-      sym c.five_are_there.ensures ∙ c.if-not-five_are_there.false,
-    )

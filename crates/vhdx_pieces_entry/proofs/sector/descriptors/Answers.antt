@@ -2,7 +2,7 @@
 use mathlib.Core.Path.{◌≡◌, sym, ap, ◌∙◌}
 use mathlib.Core.Bool.{Bool, true, false, cond}
 use mathlib.Core.List.{List}
-use mathlib.Core.Option.{Option, some}
+use Rattle.std.specs.Prelude.{Some}
 use Prim.Native.Nat.{ℕ, ◌+◌, ◌≤◌}
 use native.Mathlib.Omega.{arith}
 use native.Mathlib.Numerals.{add-one}
@@ -33,8 +33,8 @@ returns-then-not-keeps_rule c =
     let i = c.loop-i.i in
     let f = all_rules a.s.now a.from a.number in
     let no : f i ≡ false =
-    ap (descriptor_rule a.number) (sym c.at-d.ensures.bytes) ∙ sym c.keeps_rule.ensures ∙ c.if-not-keeps_rule.true in
-    sym (ap (λ (x : Bool). only_if {A = ℕ} x (data_in a.s.now a.from a.m)) (every-not f i a.m (omega (arith, c.loop-i-test.true)) no))
+    ap (descriptor_rule a.number) (sym c.array_at-d.ensures) ∙ sym c.keeps_rule.ensures ∙ c.if-not-keeps_rule.true in
+    sym (ap (λ (x : Bool). only_if {A = ℕ} x (data_in a.s.now a.from a.m)) (every-not f i a.m (omega arith) no))
 
 pub loop-i-preserved : goal.loop-i-preserved
 unfolding descriptor_in
@@ -42,16 +42,14 @@ loop-i-preserved c =
     let inv = c.loop-i.invariant in
     let a = c.args in
     let i = c.loop-i.i in
-    let same = c.at-d.ensures.bytes in
+    let same = c.array_at-d.ensures in
     let yes : all_rules a.s.now a.from a.number i ≡ true =
     ap (descriptor_rule a.number) (sym same) ∙ sym c.keeps_rule.ensures ∙ c.if-not-keeps_rule.false in
     let more = c.counted-found.ensures ∙ ap (λ (d : List ℕ). c.loop-i.found + cond (is_data_descriptor d) 1 0) same in (
       inv.0,
-      inv.1,
-      omega (arith, c.loop-i-test.true),
-      every_more (all_rules a.s.now a.from a.number) i inv.3 yes,
-      more ∙ ap (λ (x : ℕ). x + cond (is_data_descriptor (descriptor_in a.s.now a.from i)) 1 0) inv.4 ∙ sym (more-data a.s.now a.from i),
-      at_most_one (is_data_descriptor (descriptor_in a.s.now a.from i)) more inv.5,
+      every_more (all_rules a.s.now a.from a.number) i inv.1 yes,
+      more ∙ ap (λ (x : ℕ). x + cond (is_data_descriptor (descriptor_in a.s.now a.from i)) 1 0) inv.2 ∙ sym (more-data a.s.now a.from i),
+      at_most_one (is_data_descriptor (descriptor_in a.s.now a.from i)) more inv.3,
     )
 
 pub returns : goal.returns
@@ -60,6 +58,6 @@ returns c =
     let inv = c.loop-i.invariant in
     let a = c.args in
     let f = all_rules a.s.now a.from a.number in
-    let end : c.loop-i.i ≡ a.m = omega (arith, c.loop-i-test.false) in
-    ap {B = Option ℕ} some (inv.4 ∙ ap (data_in a.s.now a.from) end)
-    ∙ sym (ap (λ (x : Bool). only_if {A = ℕ} x (data_in a.s.now a.from a.m)) (sym (ap (λ (m : ℕ). every m f) end) ∙ inv.3))
+    let end : c.loop-i.i ≡ a.m = omega arith in
+    ap Some (inv.2 ∙ ap (data_in a.s.now a.from) end)
+    ∙ sym (ap (λ (x : Bool). only_if {A = ℕ} x (data_in a.s.now a.from a.m)) (sym (ap (λ (m : ℕ). every m f) end) ∙ inv.1))

@@ -2,8 +2,7 @@
 use mathlib.Core.Path.{◌≡◌}
 use mathlib.Core.Bool.{Bool, true}
 use mathlib.Core.List.{List}
-use Prim.Native.Nat.{ℕ, ◌+◌, ◌-◌, ◌*◌, ◌≤◌}
-use lib.ListN.{length}
+use Prim.Native.Nat.{ℕ, ◌+◌, ◌*◌, ◌≤◌}
 use Rattle.decision.specs.Bounded.{every}
 use Rattle.vhdx_entry.specs.Entry.{descriptor_rule}
 use Rattle.vhdx_pieces_entry.specs.Sector.{descriptor_in, data_in}
@@ -15,8 +14,5 @@ all_rules s from number i = descriptor_rule number (descriptor_in s from i)
 
 abbrev pub invariant-loop-i : goal.invariant-loop-i
 invariant-loop-i l =
-    (length l.s ≡ 4096) × (l.from + 32 * l.m ≤ 4096) × (l.i ≤ l.m)
+    (l.from + 32 * l.m ≤ 4096)
     × (every l.i (all_rules l.s l.from l.number) ≡ true) × (l.found ≡ data_in l.s l.from l.i) × (l.found ≤ l.i)
-
-abbrev pub decreases-loop-i : goal.decreases-loop-i
-decreases-loop-i l = l.m - l.i

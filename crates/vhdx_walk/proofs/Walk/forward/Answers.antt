@@ -13,10 +13,10 @@ loop-walk-init c = (c.requires, refl)
 pub load-requires : goal.load-requires
 load-requires c = search rules
 
-pub returns-in-Nothing : goal.returns-in-Nothing
-returns-in-Nothing c =
+pub returns-in_default : goal.returns-in_default
+returns-in_default c =
     let a = c.args in
-    let none = subst (Following a.log.now c.loop-walk.walk.cursor) c.in-Nothing.is c.load.ensures in
+    let none = subst (Following a.log.now c.loop-walk.walk.cursor) c.in_default.is c.load.ensures in
     let parts = subst (λ (v : Walk). Ready a.log.now v × ((sectors_left a.log.now v ≡ drop a.k (sectors_left a.log.now a.self)) × Settled a.log.now v)) (sym c.from.ensures) (
       from-ready a.log.now c.loop-walk.walk.cursor c.loop-walk.invariant.0.placed c.loop-walk.invariant.0.bounded,
       (all-passed a.log.now c.loop-walk.walk c.loop-walk.invariant.1 c.loop-walk-test.true none, settled-end a.log.now (walk_from c.loop-walk.walk.cursor) (left-from a.log.now c.loop-walk.walk.cursor ∙ none)),
@@ -26,12 +26,12 @@ returns-in-Nothing c =
 pub loop-walk-smaller : goal.loop-walk-smaller
 loop-walk-smaller c =
     let a = c.args in
-    (subst (Following a.log.now c.loop-walk.walk.cursor) c.in-At.is c.load.ensures).2
+    (subst (Following a.log.now c.loop-walk.walk.cursor) c.in-Some.is c.load.ensures).2
 
 pub loop-walk-preserved : goal.loop-walk-preserved
 loop-walk-preserved c =
     let a = c.args in
-    let some = subst (Following a.log.now c.loop-walk.walk.cursor) c.in-At.is c.load.ensures in
+    let some = subst (Following a.log.now c.loop-walk.walk.cursor) c.in-Some.is c.load.ensures in
     (some.1, past-run a.log.now c.loop-walk.walk c.loop-walk.left c.loop-walk-test.true some.0 ∙ c.loop-walk.invariant.1)
 
 pub returns : goal.returns

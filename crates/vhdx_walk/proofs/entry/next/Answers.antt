@@ -13,7 +13,7 @@ advance-requires c =
     let a = c.args in
     let log = a.log.now in
     let by : c.entry_length.result / 4096 ≡ size (ring log a.pos.at) =
-    ap (λ (n : ℕ). n / 4096) (c.entry_length.ensures ∙ ap entry_length c.sector.ensures.bytes) ∙ size-read log a.pos c.requires.0 c.requires.1 in
+    ap (λ (n : ℕ). n / 4096) (c.entry_length.ensures ∙ ap entry_length c.sector.ensures) ∙ size-read log a.pos c.requires.0 c.requires.1 in
     (c.requires.0.0, omega (arith, size-within log a.pos c.requires.0 c.requires.1))
 
 pub returns : goal.returns
@@ -21,7 +21,7 @@ returns c =
     let a = c.args in
     let log = a.log.now in
     let by : c.entry_length.result / 4096 ≡ size (ring log a.pos.at) =
-    ap (λ (n : ℕ). n / 4096) (c.entry_length.ensures ∙ ap entry_length c.sector.ensures.bytes)
+    ap (λ (n : ℕ). n / 4096) (c.entry_length.ensures ∙ ap entry_length c.sector.ensures)
     ∙ size-read log a.pos c.requires.0 c.requires.1 in
     let at : c.advance.result.at ≡ behind log a.pos.at =
     ap (λ (p : RingPos). p.at) c.advance.ensures.value

@@ -19,4 +19,4 @@ returns c = let a = c.args in
     ap (λ (n : ℕ). take 32 (drop n log)) c.offset-place.ensures.value ∙ ring-bytes log a.pos (64 + 32 * a.index) 32 c.requires.0 (omega arith) (omega arith) in
     let e : take 4096 (drop c.offset-sector.result log) ≡ data_sector (ring log a.pos.at) a.rank =
     ap (λ (n : ℕ). take 4096 (drop n log)) (c.offset-sector.ensures.value ∙ ap (λ (n : ℕ). offset_in a.pos ((n + a.rank) * 4096)) front)
-    ∙ ring-bytes log a.pos (k * 4096) 4096 c.requires.0 (omega (arith, ap descriptor_sectors c.requires.1)) (omega arith) in record { descriptor = writes-same (c.file_offset.ensures ∙ ap file_offset c.at.ensures.bytes) d e; proper = (refl, (omega (arith, c.offset-place.ensures.sector_fits), omega (arith, c.offset-sector.ensures.sector_fits))) }
+    ∙ ring-bytes log a.pos (k * 4096) 4096 c.requires.0 (omega (arith, ap descriptor_sectors c.requires.1)) (omega arith) in record { descriptor = writes-same (c.file_offset.ensures ∙ ap file_offset c.at.ensures) d e; proper = (refl, (omega (arith, c.offset-place.ensures.sector_fits), omega (arith, c.offset-sector.ensures.sector_fits))) }

@@ -9,4 +9,4 @@ use Rattle.vhdx_sequence.proofs.scan.Trace.take.Goals as goal
 pub returns : goal.returns
 returns c =
     let a = c.args in
-    record { state = c.take_by.ensures.state ∙ ap (λ (s : List ℕ). taken_by a.place.pos.len a.place.count (run_from a.place.count (state_of a.self) a.e.number) (state_of a.self) a.e (signature_rule s) (sequence_number_of s)) c.sector-tail.ensures.bytes; placed = c.take_by.ensures.placed }
+    record { state = c.take_by.ensures.state ∙ ap (λ (s : List ℕ). taken_by a.place.pos.len a.place.count (run_from a.place.count (state_of a.self) a.e.number) (state_of a.self) a.e (signature_rule s) (sequence_number_of s)) c.sector-tail.ensures; placed = c.take_by.ensures.placed }

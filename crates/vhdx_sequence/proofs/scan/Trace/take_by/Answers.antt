@@ -1,6 +1,6 @@
 -- `vhdx_sequence::scan::Trace::take_by` meets its contract.
 use mathlib.Core.List.{List}
-use mathlib.Core.Option.{Option}
+use Rattle.std.specs.Prelude.{Option}
 use mathlib.Core.Path.{◌≡◌, sym, ap, ◌∙◌}
 use Prim.Native.Nat.{ℕ, ◌+◌, ◌%◌}
 use native.Mathlib.Omega.{arith}
@@ -17,8 +17,8 @@ made tail n u st e start a b d f = simp (f, d, a, b)
 
 pub headed-requires : goal.headed-requires
 headed-requires c =
-    let p = c.requires.1 in
-    (c.requires.0, omega (arith, c.run_from-start.ensures.count, p.run), omega (arith, c.run_from-start.ensures.placed.1, p.tail), omega (arith, c.run_from-start.ensures.placed.1, p.few), c.run_from-start.ensures.placed.0 ∙ ap (λ (n : ℕ). c.run_from-start.result.count % n) (sym c.run_from-start.ensures.placed.1))
+    let p = c.requires in
+    (omega (arith, c.run_from-start.ensures.count, p.run), omega (arith, c.run_from-start.ensures.placed.1, p.tail), omega (arith, c.run_from-start.ensures.placed.1, p.few), c.run_from-start.ensures.placed.0 ∙ ap (λ (n : ℕ). c.run_from-start.result.count % n) (sym c.run_from-start.ensures.placed.1))
 
 pub returns : goal.returns
 returns c =

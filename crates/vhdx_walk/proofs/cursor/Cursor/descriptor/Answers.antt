@@ -22,7 +22,7 @@ of_data-requires c =
     let log = a.log.now in
     let inside : a.self.index < descriptor_count (ring log a.self.pos.at) = omega (arith, c.requires.2, c.requires.4) in
     let is-data : is_data_descriptor (descriptor (ring log a.self.pos.at) a.self.index) ≡ true =
-    ap is_data_descriptor (sym c.at-d.ensures.bytes) ∙ sym c.is_data.ensures ∙ c.if-is_data.true in (
+    ap is_data_descriptor (sym c.at-d.ensures) ∙ sym c.is_data.ensures ∙ c.if-is_data.true in (
       (stands log a.self c.requires.0 c.requires.1).on,
       c.requires.2,
       c.requires.3,
@@ -30,13 +30,13 @@ of_data-requires c =
       omega (arith, ap descriptor_sectors c.requires.2, rank-fits log a.self c.requires.0 c.requires.1 inside is-data),
     )
 
-pub overflow_add-result-then-is_data : goal.overflow_add-result-then-is_data
-overflow_add-result-then-is_data c =
+pub overflow_add-result : goal.overflow_add-result
+overflow_add-result c =
     let a = c.args in
     let log = a.log.now in
     let inside : a.self.index < descriptor_count (ring log a.self.pos.at) = omega (arith, c.requires.2, c.requires.4) in
     let is-data : is_data_descriptor (descriptor (ring log a.self.pos.at) a.self.index) ≡ true =
-    ap is_data_descriptor (sym c.at-d.ensures.bytes) ∙ sym c.is_data.ensures ∙ c.if-is_data.true in
+    ap is_data_descriptor (sym c.at-d.ensures) ∙ sym c.is_data.ensures ∙ c.if-is_data.true in
     omega (arith, (stands log a.self c.requires.0 c.requires.1).on, rank-fits log a.self c.requires.0 c.requires.1 inside is-data)
 
 pub returns-then-is_data : goal.returns-then-is_data
@@ -45,14 +45,14 @@ returns-then-is_data c =
     let log = a.log.now in
     let inside : a.self.index < descriptor_count (ring log a.self.pos.at) = omega (arith, c.requires.2, c.requires.4) in
     let is-data : is_data_descriptor (descriptor (ring log a.self.pos.at) a.self.index) ≡ true =
-    ap is_data_descriptor (sym c.at-d.ensures.bytes) ∙ sym c.is_data.ensures ∙ c.if-is_data.true in
+    ap is_data_descriptor (sym c.at-d.ensures) ∙ sym c.is_data.ensures ∙ c.if-is_data.true in
     past-data log a.self c.requires.0 c.requires.1 inside c.of_data.result is-data c.of_data.ensures.descriptor c.of_data.ensures.proper
 
 pub returns : goal.returns
 returns c =
     let a = c.args in
     let log = a.log.now in
-    let d = c.at-d.ensures.bytes in
+    let d = c.at-d.ensures in
     let inside : a.self.index < descriptor_count (ring log a.self.pos.at) = omega (arith, c.requires.2, c.requires.4) in
     let no-data : is_data_descriptor (descriptor (ring log a.self.pos.at) a.self.index) ≡ false =
     ap is_data_descriptor (sym d) ∙ sym c.is_data.ensures ∙ c.if-is_data.false in

@@ -8,8 +8,8 @@ use Rattle.vhdx_entry.proofs.Laws.{in-first}
 use Rattle.vhdx_walk.proofs.Moves.{on-done, stands, reads as readable, to-entry}
 use Rattle.vhdx_walk.proofs.cursor.Cursor.next.Goals as goal
 
-pub returns-then-left-eq0 : goal.returns-then-left-eq0
-returns-then-left-eq0 c = on-done c.args.log.now c.args.self.pos.at c.args.self.index c.args.self.left c.if-left-eq0.true
+pub returns-then-self-eq0 : goal.returns-then-self-eq0
+returns-then-self-eq0 c = on-done c.args.log.now c.args.self.pos.at c.args.self.index c.args.self.left c.if-self-eq0.true
 
 pub sector-requires : goal.sector-requires
 sector-requires c = (stands c.args.log.now c.args.self c.requires (omega arith)).on
@@ -22,7 +22,7 @@ descriptor-requires c =
       c.requires,
       more,
       c.descriptor_count-count.ensures.value
-          ∙ in-first log a.self.pos.len a.self.pos.at (stands log a.self c.requires more).on c.sector.ensures.bytes 24 4 (omega arith),
+          ∙ in-first log a.self.pos.len a.self.pos.at (stands log a.self c.requires more).on c.sector.ensures 24 4 (omega arith),
       c.descriptor_count-count.ensures.upper_bound,
       c.if-self-count.true,
     )
@@ -44,5 +44,5 @@ returns c =
     let more : 0 < a.self.left = omega arith in
     let count : c.descriptor_count-count.result ≡ descriptor_count (ring log a.self.pos.at) =
     c.descriptor_count-count.ensures.value
-    ∙ in-first log a.self.pos.len a.self.pos.at (stands log a.self c.requires more).on c.sector.ensures.bytes 24 4 (omega arith) in
+    ∙ in-first log a.self.pos.len a.self.pos.at (stands log a.self c.requires more).on c.sector.ensures 24 4 (omega arith) in
     to-entry log a.self c.requires more c.next.result c.next.ensures.0 c.next.ensures.1 (omega arith)

@@ -1,9 +1,0 @@
--- `capi::shrunvaki_vhdx_pieces_start` meets its contract: what the call answers, in its slots.
-use mathlib.Core.Path.{ap, ◌∙◌}
-use Rattle.vhdx_pieces_calls.specs.declared.Request.{Request}
-use Rattle.capi.specs.Answers.{request_in, refused_by}
-use Rattle.capi.proofs.shrunvaki_vhdx_pieces_start.Goals as goal
-
-pub returns : goal.returns
-returns c =
-    let s = c.args.answer.now in record { value = c.put_request.ensures.value ∙ ap refused_by c.start.ensures.value; machine_after = c.start.ensures.machine_after; answer_after = c.put_request.ensures.answer_after ∙ ap (λ (r : Request). request_in r s) c.start.ensures.value }

@@ -1,9 +1,0 @@
--- `number::sum` meets its contract: it adds only where the sum fits.
-use native.Mathlib.Omega.{arith}
-use Rattle.number.proofs.sum.Goals as goal
-
-pub returns-then-b-a : goal.returns-then-b-a
-returns-then-b-a c = omega arith
-
-pub returns-else-b-a : goal.returns-else-b-a
-returns-else-b-a c = omega arith

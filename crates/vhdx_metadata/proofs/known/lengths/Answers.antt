@@ -1,8 +1,0 @@
--- `vhdx_metadata::known::lengths` meets its contract: by computation.
-use mathlib.Core.Path.{refl}
-use Rattle.vhdx_metadata.specs.Known.{known_lengths}
-use Rattle.vhdx_metadata.proofs.known.lengths.Goals as goal
-
-pub returns : goal.returns
-unfolding known_lengths
-returns c = refl
