@@ -61,6 +61,14 @@ keeps item h =
 pub entry-keeps : (item : List ℕ) (i : ℕ) → Keeps item → i < entry_count item → entry_rule item i ≡ true
 entry-keeps item i k b = every-at (λ j. entry_rule item j) (entry_count item) i k.rules b
 
+-- what an entry of a locator that keeps its rule lets its reader ask
+module _ (item : List ℕ) (i : ℕ) (h : locator_rule item ≡ true) (b : i < entry_count item) where
+  pub entry_inside : entry_start (i + 1) ≤ length item
+  entry_inside = omega (arith, keeps item h)
+
+  pub entry_kept : entry_rule item i ≡ true
+  entry_kept = entry-keeps item i (keeps item h) b
+
 -- ---- the value of a key
 
 module _ (item key : List ℕ) where

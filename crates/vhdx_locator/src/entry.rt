@@ -1,6 +1,7 @@
 // Entry i of a locator: the offset and the length of its key and of its value.
-ghost use Rattle.std.specs.Prelude.{true, ◌≡◌, ◌+◌, ◌≤◌, ◌<◌, length, Some};
-ghost use Rattle.vhdx_locator.specs.Locator.{entry_count, entry_start, key_offset, key_length, part_rule, entry_rule, locator_rule, has_key, value_at};
+ghost use Rattle.std.specs.Prelude.{true, ◌≡◌, ◌+◌, ◌≤◌, drop, length, Some};
+ghost use Rattle.field.specs.Fields.{starts};
+ghost use Rattle.vhdx_locator.specs.Locator.{entry_start, key_offset, key_length, part_rule, entry_rule, has_key, value_at};
 
 use extent::Extent;
 
@@ -41,12 +42,35 @@ pub fn keeps_rule(item: &[u8], i: usize) -> bool
     part_keeps_rule(item, key(item, i)) && part_keeps_rule(item, value(item, i))
 }
 
-// The entry has the key, byte for byte: of a locator that keeps its rule.
+// Some first bytes agree, compared as one number: most keys differ there, and `bytes_are` compares many at once.
+#[tactic(auto, using(crate::proofs::Begins::same_number))]
+fn begins_alike(item: &[u8], at: usize, key_bytes: &[u8]) -> bool
+    requires { at + length key_bytes.now ≤ length item.now }
+    ensures { starts (drop at item.now) key_bytes.now ≡ true → result ≡ true }
+{
+    match key_bytes.len() {
+        0 => true,
+        1 => field::u8_at(item, at) == field::u8_at(key_bytes, 0),
+        2 | 3 => field::u16_at(item, at) == field::u16_at(key_bytes, 0),
+        4..=7 => field::u32_at(item, at) == field::u32_at(key_bytes, 0),
+        _ => field::u64_at(item, at) == field::u64_at(key_bytes, 0),
+    }
+}
+
+// The bytes at an offset are the key.
+fn is_at(item: &[u8], at: usize, key_bytes: &[u8]) -> bool
+    requires { at + length key_bytes.now ≤ length item.now }
+    ensures { result ≡ starts (drop at item.now) key_bytes.now }
+{
+    begins_alike(item, at, key_bytes) && field::bytes_are(item, at, key_bytes)
+}
+
+// The entry has the key, byte for byte.
 #[tactic(auto, unfolding(crate::specs::Locator::has_key))]
 pub fn has_key(item: &[u8], i: usize, key_bytes: &[u8]) -> bool
-    requires { (locator_rule item.now ≡ true) × (i < entry_count item.now) }
+    requires { (entry_start (i + 1) ≤ length item.now) × (entry_rule item.now i ≡ true) }
     ensures { result ≡ has_key item.now key_bytes.now i }
 {
     let own = key(item, i);
-    own.length == key_bytes.len() as u64 && field::bytes_are(item, own.offset as usize, key_bytes)
+    own.length == key_bytes.len() as u64 && is_at(item, own.offset as usize, key_bytes)
 }

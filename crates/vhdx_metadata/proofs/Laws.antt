@@ -19,7 +19,7 @@ use Rattle.extent.specs.declared.Extent.{Extent}
 use Rattle.extent.specs.Extent.{mib, inside}
 use Rattle.guid.specs.Stored.{row_of}
 use Rattle.vhdx_metadata.specs.Known.{known_items, known_lengths, parent_locator}
-use Rattle.vhdx_metadata.specs.Table.{metadata, entry_count, table_rule, entry, item_offset, item_length, item_extent, is_user, length_rule, offset_rule, location_rule, unique_rule, is_known, required_rule, own_rule, entry_rule, entries_rule, metadata_rule}
+use Rattle.vhdx_metadata.specs.Table.{metadata, entry_count, table_rule, entry, identifier, item_offset, item_length, item_extent, is_user, length_rule, offset_rule, location_rule, unique_rule, is_known, required_rule, own_rule, entry_rule, entries_rule, metadata_rule}
 use Rattle.vhdx_metadata.specs.Items.{is_item, entry_of, is_length, is_there_at, is_there, extent_at, extent_of, has_parent_of, needed_rule, contents, items}
 use Rattle.vhdx_metadata.specs.declared.Items.{Items}
 
@@ -27,6 +27,10 @@ both : (a b : Bool) → (a && b) ≡ true → (a ≡ true) × (b ≡ true)
 both a b = (and-eq-true_iff a b).0
 
 -- ---- an entry
+
+-- its identifier, read in two halves
+pub identified : (e : List ℕ) {g : Guid} → length e ≡ 32 → g ≡ guid_at e 0 → number g ≡ identifier e
+identified e h p = ap number p ∙ number_at e 0 (omega arith)
 
 -- an entry is known by the row that its identifier is found in
 pub known-by-row : (e : List ℕ) → 8 ≤ length e → {table : List (List ℕ)} {g : Guid} {x : Option ℕ} → table ≡ known_items → g ≡ guid_at e 0 → x ≡ row_of table (number g) → is_known e ≡ (not (is_user e) && is_some x)

@@ -1,10 +1,12 @@
 // One entry of the metadata table, given as its 32 bytes.
 ghost use Rattle.std.specs.Prelude.{◌≡◌, ◌<◌};
+ghost use Rattle.field.specs.Fields.{guid_at};
 ghost use Rattle.vhdx_metadata.specs.Table.{item_extent, is_user, is_required, unique_rule, is_known, own_rule};
 ghost use Rattle.vhdx_metadata.specs.Items.{is_item};
 
 use crate::{known, location};
 use extent::Extent;
+use field::Guid;
 
 pub fn extent(e: &[u8; 32]) -> Extent
     ensures { result ≡ item_extent e.now }
@@ -57,4 +59,13 @@ pub fn are_distinct(earlier: &[u8; 32], e: &[u8; 32]) -> bool
     // `&`: no branch, and the rule is proved as one equation
     let same = field::guid_is(earlier, 0, field::guid_at(e, 0));
     !(same & (field::u32_at(earlier, 24) % 2 == field::u32_at(e, 24) % 2))
+}
+
+// The same, where e's identifier is at hand: most entries differ in that, so the flags are compared where it is the same.
+#[tactic(auto, using(crate::proofs::Laws::identified))]
+pub fn is_distinct_from(earlier: &[u8; 32], e: &[u8; 32], id: Guid) -> bool
+    requires { id ≡ guid_at e.now 0 }
+    ensures { result ≡ unique_rule earlier.now e.now }
+{
+    !field::guid_is(earlier, 0, id) || are_distinct(earlier, e)
 }

@@ -29,7 +29,9 @@ pub fn entry(region: &[u8], i: usize) -> &[u8; 32]
     requires { (65536 ≤ length_of region.now) × (i < 2047) }
     ensures { result.now ≡ entry_at region.now i }
 {
-    field::array_at(region, 32 + 32 * i)
+    let at = 32 + 32 * i;
+    // a part of 32 bytes, so that no length is tested for each entry
+    field::array_at(&region[at..at + 32], 0)
 }
 
 // Entry i is distinct from every earlier one.
@@ -38,7 +40,8 @@ fn is_distinct(region: &[u8], i: usize) -> bool
     ensures { result ≡ every i (λ j. unique_rule (entry_at region.now j) (entry_at region.now i)) }
 {
     let e = entry(region, i);
-    (0..i).all(|j| entry::are_distinct(entry(region, j), e))
+    let id = field::guid_at(e, 0);
+    (0..i).all(|j| entry::is_distinct_from(entry(region, j), e, id))
 }
 
 #[tactic(auto, unfolding(crate::specs::Table::entry_rule))]
