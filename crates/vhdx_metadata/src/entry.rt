@@ -1,7 +1,7 @@
 // One entry of the metadata table, given as its 32 bytes.
-ghost use Rattle.std.specs.Prelude.{◌≡◌, ◌<◌};
-ghost use Rattle.field.specs.Fields.{guid_at};
-ghost use Rattle.vhdx_metadata.specs.Table.{item_extent, is_user, is_required, unique_rule, is_known, own_rule};
+ghost use Rattle.std.specs.Prelude.{◌≡◌, ◌<◌, nat_eq};
+ghost use Rattle.field.specs.Fields.{number};
+ghost use Rattle.vhdx_metadata.specs.Table.{identifier, item_extent, is_user, is_required, unique_rule, is_known, own_rule};
 ghost use Rattle.vhdx_metadata.specs.Items.{is_item};
 
 use crate::{known, location};
@@ -52,20 +52,18 @@ pub fn keeps_rule(e: &[u8; 32], region_length: u64) -> bool
     location::keeps_rule(extent(e), region_length) && (is_known(e) || !is_required(e))
 }
 
+// The identifier of an entry is this one. Not by `field::guid_is`, which reads both halves: most entries differ in the first.
+fn has_id(e: &[u8; 32], id: Guid) -> bool
+    ensures { result ≡ nat_eq (identifier e.now) (number id) }
+{
+    field::u64_at(e, 0) == id.low && field::u64_at(e, 8) == id.high
+}
+
 // Two entries differ in identifier or in IsUser.
+#[tactic(auto, using(crate::proofs::Laws::identified))]
 pub fn are_distinct(earlier: &[u8; 32], e: &[u8; 32]) -> bool
     ensures { result ≡ unique_rule earlier.now e.now }
 {
-    // `&`: no branch, and the rule is proved as one equation
-    let same = field::guid_is(earlier, 0, field::guid_at(e, 0));
-    !(same & (field::u32_at(earlier, 24) % 2 == field::u32_at(e, 24) % 2))
-}
-
-// The same, where e's identifier is at hand: most entries differ in that, so the flags are compared where it is the same.
-#[tactic(auto, using(crate::proofs::Laws::identified))]
-pub fn is_distinct_from(earlier: &[u8; 32], e: &[u8; 32], id: Guid) -> bool
-    requires { id ≡ guid_at e.now 0 }
-    ensures { result ≡ unique_rule earlier.now e.now }
-{
-    !field::guid_is(earlier, 0, id) || are_distinct(earlier, e)
+    !has_id(earlier, field::guid_at(e, 0))
+        || field::u32_at(earlier, 24) % 2 != field::u32_at(e, 24) % 2
 }

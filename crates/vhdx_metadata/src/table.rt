@@ -34,14 +34,15 @@ pub fn entry(region: &[u8], i: usize) -> &[u8; 32]
     field::array_at(&region[at..at + 32], 0)
 }
 
-// Entry i is distinct from every earlier one.
+// Entry i is distinct from every earlier one. Neither inlined nor with e's identifier at hand: either way the loop's time hangs on
+// where the linker puts it (docs/DESIGN-PASS.md, Speed).
+#[inline(never)]
 fn is_distinct(region: &[u8], i: usize) -> bool
     requires { (65536 ≤ length_of region.now) × (i < 2047) }
     ensures { result ≡ every i (λ j. unique_rule (entry_at region.now j) (entry_at region.now i)) }
 {
     let e = entry(region, i);
-    let id = field::guid_at(e, 0);
-    (0..i).all(|j| entry::is_distinct_from(entry(region, j), e, id))
+    (0..i).all(|j| entry::are_distinct(entry(region, j), e))
 }
 
 #[tactic(auto, unfolding(crate::specs::Table::entry_rule))]
